@@ -5,3 +5,4 @@ pub mod Bits
 pub mod Verdict
 pub mod Score
 pub mod Count
+pub mod Turn

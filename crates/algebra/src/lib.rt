@@ -2,6 +2,8 @@
 pub mod count;
 pub mod interface;
 pub mod points;
+pub mod relation;
 pub mod residue;
 pub mod score;
+pub mod turn;
 pub mod verdict;
