@@ -3,11 +3,7 @@ ghost use mathlib.Core.Path.{_≡_};
 ghost use Rattle.algebra.specs.Semiring.{Ops, Laws};
 ghost use Rattle.algebra.specs.Codes.{Codes, Coded};
 
-// The refusal of a code that no value has.
-#[derive(Clone, Copy)]
-pub struct NoValue;
-
-// Values that can be added and multiplied.
+// Values that can be added and multiplied. The product need not commute, and zero may be one.
 pub trait Semiring {
     type Value: Copy;
 
@@ -28,10 +24,15 @@ pub trait Semiring {
         ensures { λ r. ⌜ r ≡ ops .times a b ⌝ };
 }
 
-// A semiring whose values, but for zero, have codes of so many bytes.
+// The refusal of a code that no value has.
+#[derive(Clone, Copy)]
+pub struct NoValue;
+
+// A weight algebra: a semiring whose values, but for zero, have codes.
 pub trait Algebra: Semiring {
     const NUMBER: u8;
 
+    // the bytes of a code
     const WIDTH: usize;
 
     ghost codes: { Codes Self·Value };

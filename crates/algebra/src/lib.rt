@@ -1,9 +1,2 @@
-// Weight algebras: the interface, its laws, and the four that ship.
-pub mod count;
+// Weight algebras: the interface and its laws, and the mathematics of sums, products and tables.
 pub mod interface;
-pub mod points;
-pub mod relation;
-pub mod residue;
-pub mod score;
-pub mod turn;
-pub mod verdict;

@@ -1,9 +1,0 @@
-use lib.Bits.{or-lt}
-use Rattle.algebra.proofs.Turns.{same, union}
-use Rattle.algebra.proofs.turn.TurnSemiring.plus.Needs as need
-
-pub ghost-result : need.ghost-result
-ghost-result c = (or-lt 9 (c .args .a .bits) (c .args .b .bits) (c .args .a .nine) (c .args .b .nine), tt)
-
-pub returns : need.returns
-returns c = same (union (c .args .a) (c .args .b))
