@@ -1,4 +1,6 @@
 pub mod Embedding
+pub mod Lists
 pub mod OwnCodes
 pub mod Sums
 pub mod TableLaws
+pub mod Walks

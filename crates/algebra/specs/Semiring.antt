@@ -1,7 +1,9 @@
 -- Semirings whose product need not commute, with their finite sums and products.
 use mathlib.Core.Path.{_≡_}
 use mathlib.Core.List.{List, [], _∷_, _++_, map}
-use Prim.Native.Nat.{ℕ}
+use Prim.Native.Nat.{ℕ, _<_}
+use lib.ListN.{length}
+use Rattle.std.specs.shelf.Lists.{All}
 
 -- the operations of a semiring of values V
 pub record Ops (V : Type 0) : Type 0 where
@@ -47,3 +49,7 @@ fronts (ℕ.suc n) ls = fronts n ls ++ map (λ l. n ∷ l) ls
 abbrev pub all-lists : ℕ → ℕ → List (List ℕ)
 all-lists n ℕ.zero = [] ∷ []
 all-lists n (ℕ.suc k) = fronts n (all-lists n k)
+
+-- a list of k numbers below n
+abbrev pub Listed : ℕ → ℕ → List ℕ → Type 0
+Listed n k rs = (length rs ≡ k) × All (λ r. r < n) rs

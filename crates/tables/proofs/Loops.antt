@@ -1,5 +1,5 @@
 -- What a loop has summed or written so far, and what it has in the end.
-use mathlib.Core.Path.{_≡_, sym, _∙_, ap, ap₂, fun-ext}
+use mathlib.Core.Path.{_≡_, refl, sym, _∙_, ap, ap₂, fun-ext}
 use mathlib.Core.Logic.{_≢_}
 use mathlib.Core.List.{List, _++_, map}
 use Prim.Native.Nat.{ℕ, _+_, _-_, _*_, _<_, _≤_}
@@ -83,6 +83,10 @@ module _ {V : Type 0} (O : Ops V) where
   pub cell-of : (n : ℕ) (xs : List V) (p q : ℕ) → p < n → q < n → cell O (table-of O n xs) p q ≡ read O xs (p * n + q)
   unfolding table-of
   cell-of n xs p q hp hq = cell-filled O n _ p q hp hq
+
+  pub held : (n : ℕ) (xs : List V) → length xs ≡ n * n → table-of O n xs .entries ≡ xs
+  unfolding table-of
+  held n xs long = sym (all-rows n xs (λ p q. read O xs (p * n + q)) long (λ p hp q hq. refl))
 
 module _ {V : Type 0} {O : Ops V} (S : Laws O) where
   -- row p of a product

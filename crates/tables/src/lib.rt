@@ -6,6 +6,7 @@ ghost use Rattle.tables.specs.Entries.{identity-entries, sum-entries, product-
 ghost use Rattle.tables.specs.Answers.{Size, Long, Square, Tested, Written, Answered};
 
 mod exact;
+pub mod theorems;
 
 use algebra::interface::Semiring;
 
