@@ -1,3 +1,4 @@
 pub mod Semiring
-pub mod Codes
 pub mod Tables
+pub mod Codes
+pub mod Bits

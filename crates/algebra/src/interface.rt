@@ -25,7 +25,7 @@ pub trait Semiring {
 }
 
 // The refusal of a code that no value has.
-#[derive(Clone, Copy)]
+#[derive(Clone, Copy, Debug)]
 pub struct NoValue;
 
 // A weight algebra: a semiring whose values, but for zero, have codes.

@@ -11,7 +11,7 @@ pub mod theorems;
 use algebra::interface::Semiring;
 
 // The refusal of a size that is not from one to four, or of a slice of another length.
-#[derive(Clone, Copy)]
+#[derive(Clone, Copy, Debug)]
 pub struct Misfit;
 
 fn test_size(n: usize) -> Result<(), Misfit>

@@ -4,25 +4,20 @@ use algebra::interface::Semiring;
 
 pub fn tables_are_a_semiring<S: Semiring>(n: usize)
     ensures { λ _. ⌜ Tables-are-a-semiring (S·Semiring .ops) n ⌝ }
-{
-}
+{}
 
 pub fn products_sum_walks<S: Semiring>(n: usize)
     ensures { λ _. ⌜ Products-sum-walks (S·Semiring .ops) n ⌝ }
-{
-}
+{}
 
 pub fn slices_hold_tables<S: Semiring>(n: usize)
     ensures { λ _. ⌜ Slices-hold-tables (S·Semiring .ops) n ⌝ }
-{
-}
+{}
 
 pub fn lists_are_all()
     ensures { λ _. ⌜ Lists-are-all ⌝ }
-{
-}
+{}
 
 pub fn lists_stand_once<S: Semiring>()
     ensures { λ _. ⌜ Lists-stand-once (S·Semiring .ops) ⌝ }
-{
-}
+{}

@@ -13,12 +13,13 @@ use Rattle.std.specs.declared.result.Result.the-variants.{Ok}
 use Rattle.turn.specs.declared.relation.Relation.{Relation}
 use Rattle.algebra.specs.Semiring.{Laws}
 use Rattle.algebra.specs.Codes.{Coded}
-use Rattle.turn.specs.Bits.{bits, number}
+use Rattle.algebra.specs.Bits.{bits, number}
 use Rattle.algebra.specs.Tables.{Table, filled, table-ops}
 use Rattle.verdict.proofs.Verdicts.{verdict-laws}
 use Rattle.verdict.specs.Verdict.{and, verdicts}
 use Rattle.turn.specs.Turn.{has, pairs-with, crossed, turns, turn-codes}
-use Rattle.turn.proofs.BitLists.{bits-number, number-bits, ors, or-number, and-bits}
+use Rattle.algebra.proofs.BitLists.{bits-number, number-bits}
+use Rattle.turn.proofs.BitLists.{ors, or-number, and-bits}
 use Rattle.algebra.proofs.Embedding.{embedded}
 use Rattle.algebra.proofs.OwnCodes.{own-coded, own-value-at}
 use Rattle.algebra.proofs.TableLaws.{table-path, table-laws}

@@ -8,7 +8,7 @@ use lib.ListN.{getD}
 use Rattle.turn.specs.declared.relation.Relation.{Relation}
 use Rattle.algebra.specs.Semiring.{Ops, sumTo}
 use Rattle.algebra.specs.Codes.{Codes, own-codes}
-use Rattle.turn.specs.Bits.{bits, number, number-below}
+use Rattle.algebra.specs.Bits.{bits, number, number-below}
 use Rattle.verdict.specs.Verdict.{or, and, verdicts}
 
 -- (i, j) is in x

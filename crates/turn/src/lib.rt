@@ -1,7 +1,7 @@
 // Turn: relations on three directions, under union and composition.
 ghost use mathlib.Core.Path.{_≡_};
 ghost use mathlib.Core.List.{[], _∷_};
-ghost use Rattle.turn.specs.Bits.{bits, number};
+ghost use Rattle.algebra.specs.Bits.{bits, number};
 ghost use Rattle.turn.specs.Turn.{turns, turn-codes, crossed};
 
 pub mod relation;
