@@ -1,2 +1,3 @@
 // Weight algebras: the interface and its laws, and the mathematics of sums, products and tables.
 pub mod interface;
+pub mod theorems;

@@ -2,11 +2,9 @@
 ghost use mathlib.Core.Path.{_≡_};
 ghost use Prim.Native.Nat.{ℕ, _*_};
 ghost use lib.ListN.{length};
-ghost use Rattle.tables.specs.Entries.{identity-entries, sum-entries, product-entries, value-between};
-ghost use Rattle.tables.specs.Answers.{Size, Long, Square, Tested, Written, Answered};
-
-mod exact;
-pub mod theorems;
+ghost use Rattle.kernels.specs.Entries.{identity-entries, sum-entries, product-entries, value-between};
+ghost use Rattle.kernels.specs.Sizes.{Size, Long, Square};
+ghost use Rattle.tables.specs.Answers.{Tested, Written, Answered};
 
 use algebra::interface::Semiring;
 
@@ -14,20 +12,14 @@ use algebra::interface::Semiring;
 #[derive(Clone, Copy, Debug)]
 pub struct Misfit;
 
-fn test_size(n: usize) -> Result<(), Misfit>
-    ensures { λ r. ⌜ Tested (Size n) r ⌝ }
+fn test_table(n: usize, entries: usize) -> Result<(), Misfit>
+    ensures { λ r. ⌜ Tested (Size n × (entries ≡ n * n)) r ⌝ }
 {
-    if 1 <= n && n <= 4 {
+    if 1 <= n && n <= 4 && entries == n * n {
         Ok(())
     } else {
         Err(Misfit)
     }
-}
-
-fn test_length(found: usize, wanted: usize) -> Result<(), Misfit>
-    ensures { λ r. ⌜ Tested (found ≡ wanted) r ⌝ }
-{
-    if found == wanted { Ok(()) } else { Err(Misfit) }
 }
 
 // Writes x + y.
@@ -40,11 +32,10 @@ pub fn sum<S: Semiring>(
     ensures { λ r. ⌜ Written (Square n (now (x .entry)) × Square n (now (y .entry)) × Square n (now (out .entry)))
         (sum-entries (S·Semiring .ops) n (now (x .entry)) (now (y .entry))) (now (out .entry)) r (now (out .exit)) ⌝ }
 {
-    test_size(n)?;
-    test_length(x.len(), n * n)?;
-    test_length(y.len(), n * n)?;
-    test_length(out.len(), n * n)?;
-    exact::sum::<S>(n, x, y, out);
+    test_table(n, x.len())?;
+    test_table(n, y.len())?;
+    test_table(n, out.len())?;
+    kernels::sum::<S>(n, x, y, out);
     Ok(())
 }
 
@@ -58,11 +49,10 @@ pub fn product<S: Semiring>(
     ensures { λ r. ⌜ Written (Square n (now (x .entry)) × Square n (now (y .entry)) × Square n (now (out .entry)))
         (product-entries (S·Semiring .ops) n (now (x .entry)) (now (y .entry))) (now (out .entry)) r (now (out .exit)) ⌝ }
 {
-    test_size(n)?;
-    test_length(x.len(), n * n)?;
-    test_length(y.len(), n * n)?;
-    test_length(out.len(), n * n)?;
-    exact::product::<S>(n, x, y, out);
+    test_table(n, x.len())?;
+    test_table(n, y.len())?;
+    test_table(n, out.len())?;
+    kernels::product::<S>(n, x, y, out);
     Ok(())
 }
 
@@ -70,9 +60,8 @@ pub fn product<S: Semiring>(
 pub fn identity<S: Semiring>(n: usize, out: &mut [S::Value]) -> Result<(), Misfit>
     ensures { λ r. ⌜ Written (Square n (now (out .entry))) (identity-entries (S·Semiring .ops) n) (now (out .entry)) r (now (out .exit)) ⌝ }
 {
-    test_size(n)?;
-    test_length(out.len(), n * n)?;
-    exact::identity::<S>(n, out);
+    test_table(n, out.len())?;
+    kernels::identity::<S>(n, out);
     Ok(())
 }
 
@@ -86,9 +75,9 @@ pub fn value<S: Semiring>(
     ensures { λ r. ⌜ Answered (Long n (now (start .entry)) × Square n (now (table .entry)) × Long n (now (finish .entry)))
         (value-between (S·Semiring .ops) n (now (start .entry)) (now (table .entry)) (now (finish .entry))) r ⌝ }
 {
-    test_size(n)?;
-    test_length(start.len(), n)?;
-    test_length(table.len(), n * n)?;
-    test_length(finish.len(), n)?;
-    Ok(exact::value::<S>(n, start, table, finish))
+    test_table(n, table.len())?;
+    if start.len() != n || finish.len() != n {
+        return Err(Misfit);
+    }
+    Ok(kernels::value::<S>(n, start, table, finish))
 }
