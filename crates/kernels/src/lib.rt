@@ -105,5 +105,4 @@ pub fn value<S: Semiring>(
 // A theorem, as the contract of a function that does nothing.
 pub fn slices_hold_tables<S: Semiring>(n: usize)
     ensures { λ _. ⌜ Slices-hold-tables (S·Semiring .ops) n ⌝ }
-{
-}
+{}

@@ -5,7 +5,6 @@ ghost use lib.ListN.{length};
 ghost use Rattle.kernels.specs.Entries.{identity-entries, sum-entries, product-entries, value-between};
 ghost use Rattle.kernels.specs.Sizes.{Size, Long, Square};
 ghost use Rattle.tables.specs.Answers.{Tested, Written, Answered};
-
 use algebra::interface::Semiring;
 
 // The refusal of a size that is not from one to four, or of a slice of another length.
