@@ -16,7 +16,7 @@ use Rattle.std.proofs.shelf.Lists.{getD-append-left, getD-append-right}
 use Rattle.algebra.specs.Semiring.{Ops, Laws, sumTo}
 use Rattle.algebra.specs.Tables.{Table, cell, filled}
 use Rattle.algebra.proofs.Sums.{sum-below, times-sum}
-use Rattle.algebra.proofs.TableLaws.{table-same, cell-filled}
+use Rattle.algebra.proofs.TableLaws.{table-path, table-same, cell-filled}
 use Rattle.kernels.specs.Entries.{read, table-of, value-between, row-by-column}
 
 row-end : (n p : ℕ) → p < n → p * n + n ≤ n * n
@@ -87,6 +87,9 @@ module _ {V : Type 0} (O : Ops V) where
   pub held : (n : ℕ) (xs : List V) → length xs ≡ n * n → table-of O n xs .entries ≡ xs
   unfolding table-of
   held n xs long = sym (all-rows n xs (λ p q. read O xs (p * n + q)) long (λ p hp q hq. refl))
+
+  pub of-entries : {n : ℕ} (A : Table V n) → table-of O n (A .entries) ≡ A
+  of-entries {n} A = table-path _ A (held n (A .entries) (A .sized))
 
 module _ {V : Type 0} {O : Ops V} (S : Laws O) where
   -- row p of a product

@@ -5,22 +5,48 @@ mod show;
 mod stop;
 mod weigh;
 
+use algebra::interface::Algebra;
 use count::Count;
 use count::CountAlgebra;
 use count::CountSemiring;
 use score::Score;
 use score::ScoreAlgebra;
 use score::ScoreSemiring;
+use sheet::Sheet;
 use sheet::build;
+use show::Weights;
+use show::WeightsDisplay;
 use stop::Stop;
 use stop::StopFromIo;
 use stop::StopFromNoValue;
-use weigh::report;
+use weigh::weigh;
 
 const TEXT: &str = "ab 7";
 
+fn report<A: Algebra>(
+    rt: &LibcRuntime,
+    name: &str,
+    sheet: &Sheet<A::Value>,
+    running: &mut [A::Value],
+    next: &mut [A::Value],
+) -> Result<(), Stop> {
+    println!(rt, "algebra: {name}")?;
+    let weight = [weigh::<A>(rt, sheet, TEXT.as_bytes(), running, next)?];
+    let start = Weights::<A>(&sheet.start);
+    let finish = Weights::<A>(&sheet.finish);
+    let total = Weights::<A>(&weight);
+    println!(rt, "start: {start}")?;
+    println!(rt, "finish: {finish}")?;
+    println!(rt, "weight: {total}")?;
+    Ok(())
+}
+
 fn main(rt: LibcRuntime) -> Result<(), Stop> {
     println!(rt, "text: {TEXT}")?;
-    report::<Score>(&rt, "score", &build::<Score>()?, TEXT.as_bytes())?;
-    report::<Count>(&rt, "count", &build::<Count>()?, TEXT.as_bytes())
+    let mut running = [Score::zero(); 4];
+    let mut next = [Score::zero(); 4];
+    report::<Score>(&rt, "score", &build::<Score>()?, &mut running, &mut next)?;
+    let mut running = [Count::zero(); 4];
+    let mut next = [Count::zero(); 4];
+    report::<Count>(&rt, "count", &build::<Count>()?, &mut running, &mut next)
 }
