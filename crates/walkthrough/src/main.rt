@@ -14,8 +14,7 @@ use score::ScoreAlgebra;
 use score::ScoreSemiring;
 use sheet::Sheet;
 use sheet::build;
-use show::Weights;
-use show::WeightsDisplay;
+use show::show;
 use stop::Stop;
 use stop::StopFromIo;
 use stop::StopFromNoValue;
@@ -30,19 +29,16 @@ fn report<A: Algebra>(
     running: &mut [A::Value],
     next: &mut [A::Value],
 ) -> Result<(), Stop> {
-    println!(rt, "algebra: {name}")?;
-    let weight = [weigh::<A>(rt, sheet, TEXT.as_bytes(), running, next)?];
-    let start = Weights::<A>(&sheet.start);
-    let finish = Weights::<A>(&sheet.finish);
-    let total = Weights::<A>(&weight);
-    println!(rt, "start: {start}")?;
-    println!(rt, "finish: {finish}")?;
-    println!(rt, "weight: {total}")?;
+    println!(rt, "algebra {name}")?;
+    let weight = weigh::<A>(rt, sheet, TEXT.as_bytes(), running, next)?;
+    show::<A>(rt, "start", &sheet.start)?;
+    show::<A>(rt, "finish", &sheet.finish)?;
+    show::<A>(rt, "weight", &[weight])?;
     Ok(())
 }
 
 fn main(rt: LibcRuntime) -> Result<(), Stop> {
-    println!(rt, "text: {TEXT}")?;
+    println!(rt, "text {TEXT}")?;
     let mut running = [Score::zero(); 4];
     let mut next = [Score::zero(); 4];
     report::<Score>(&rt, "score", &build::<Score>()?, &mut running, &mut next)?;

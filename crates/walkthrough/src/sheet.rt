@@ -2,7 +2,7 @@
 use algebra::interface::Algebra;
 use algebra::interface::NoValue;
 
-#[derive(Clone, Copy)]
+#[derive(Drop)]
 pub struct Sheet<V: Copy> {
     pub start: [V; 2],
     pub finish: [V; 2],

@@ -1,24 +1,15 @@
-// How weights are printed: by their codes.
+// How weights are printed.
 use algebra::interface::Algebra;
-use std::fmt;
+use std::io;
 
-const STATES: usize = 2;
-
-// The codes of weights row by row, `none` for zero.
-#[derive(Drop)]
-pub struct Weights<'a, A: Algebra>(pub &'a [A::Value]);
-
-pub impl<A: Algebra> fmt::Display for Weights<'_, A> as WeightsDisplay {
-    fn fmt<W: fmt::Write>(&self, f: &mut fmt::Formatter<W>) -> fmt::Result {
-        for (i, weight) in self.0.iter().enumerate() {
-            if i > 0 {
-                f.write_str(if i % STATES == 0 { " | " } else { " " })?;
-            }
-            match A::code(*weight) {
-                Some(code) => write!(f, "{code}")?,
-                None => f.write_str("none")?,
-            }
+// A line with the codes of the weights, `none` for zero.
+pub fn show<A: Algebra>(rt: &LibcRuntime, label: &str, weights: &[A::Value]) -> io::Result<()> {
+    print!(rt, "{label}:")?;
+    for weight in weights {
+        match A::code(*weight) {
+            Some(code) => print!(rt, " {code}")?,
+            None => print!(rt, " none")?,
         }
-        Ok(())
     }
+    println!(rt, "")
 }

@@ -1,11 +1,9 @@
 // Why the program stopped.
 use algebra::interface::NoValue;
-use algebra::interface::NoValueDebug;
 use std::io;
 use tables::Misfit;
-use tables::MisfitDebug;
 
-#[derive(Debug, Drop)]
+#[derive(Drop)]
 pub enum Stop {
     Code(NoValue),
     Table(Misfit),

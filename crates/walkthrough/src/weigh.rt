@@ -7,12 +7,13 @@ ghost use Rattle.walkthrough.specs.Weight.{class-entries, plain-weight};
 use crate::class::Class;
 use crate::class::classify;
 use crate::sheet::Sheet;
-use crate::show::Weights;
-use crate::show::WeightsDisplay;
+use crate::show::show;
 use crate::stop::Stop;
 use crate::stop::StopFromIo;
 use crate::stop::StopFromMisfit;
 use algebra::interface::Algebra;
+use algebra::interface::Semiring;
+use tables::Misfit;
 
 fn class_table<V: Copy>(sheet: &Sheet<V>, class: Class) -> [V; 4]
     ensures { λ r. ⌜ r ≡ class-entries (now (sheet .entry)) class ⌝ }
@@ -24,28 +25,16 @@ fn class_table<V: Copy>(sheet: &Sheet<V>, class: Class) -> [V; 4]
     }
 }
 
-// Multiplies the running table by that of the byte's class, by way of `next`.
-fn step<A: Algebra>(
-    rt: &LibcRuntime,
-    sheet: &Sheet<A::Value>,
-    place: usize,
-    byte: u8,
-    running: &mut [A::Value],
-    next: &mut [A::Value],
-) -> Result<(), Stop>
-    ensures { λ r. ⌜ made r (λ _. now (running .exit) ≡ product-entries (A·Semiring .ops) 2 (now (running .entry)) (class-entries (now (sheet .entry)) (class-of byte))) ⌝ }
+// Multiplies the running table by another, by way of `next`.
+fn multiply<S: Semiring>(
+    running: &mut [S::Value],
+    table: &[S::Value],
+    next: &mut [S::Value],
+) -> Result<(), Misfit>
+    ensures { λ r. ⌜ made r (λ _. now (running .exit) ≡ product-entries (S·Semiring .ops) 2 (now (running .entry)) (now (table .entry))) ⌝ }
 {
-    let class = classify(byte);
-    let table = class_table(sheet, class);
-    tables::product::<A>(2, running, &table, next)?;
+    tables::product::<S>(2, running, table, next)?;
     running.copy_from_slice(next);
-    let number = class as u8;
-    let by = Weights::<A>(&table);
-    let gives = Weights::<A>(running);
-    println!(
-        rt,
-        "place {place}: class {number}, times {by}, gives {gives}"
-    )?;
     Ok(())
 }
 
@@ -60,10 +49,15 @@ pub fn weigh<A: Algebra>(
     ensures { λ r. ⌜ made r (λ w. w ≡ plain-weight (A·Semiring .ops) (now (sheet .entry)) (now (text .entry))) ⌝ }
 {
     tables::identity::<A>(2, running)?;
-    let first = Weights::<A>(running);
-    println!(rt, "identity: {first}")?;
+    show::<A>(rt, "identity", running)?;
     for (place, byte) in text.iter().enumerate() {
-        step::<A>(rt, sheet, place, *byte, running, next)?;
+        let class = classify(*byte);
+        let table = class_table(sheet, class);
+        multiply::<A>(running, &table, next)?;
+        let number = class as u8;
+        println!(rt, "place {place} class {number}")?;
+        show::<A>(rt, "  times", &table)?;
+        show::<A>(rt, "  gives", running)?;
     }
     Ok(tables::value::<A>(2, &sheet.start, running, &sheet.finish)?)
 }
