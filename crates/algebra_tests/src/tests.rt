@@ -158,3 +158,14 @@ fn numbers_and_widths() -> Result<(), Fail> {
     check_eq((Count::NUMBER, Count::WIDTH), (3, 4))?;
     check_eq((Turn::NUMBER, Turn::WIDTH), (4, 2))
 }
+
+#[test]
+fn tables_of_a_bureaus_own() -> Result<(), Fail> {
+    let x = [Matrices::value(2)?];
+    let y = [Matrices::value(4)?];
+    let mut out = [Matrices::zero()];
+    check(tables::product::<Matrices>(1, &x, &y, &mut out).is_ok())?;
+    check_eq(Matrices::code(out[0]), Some(1))?;
+    check(tables::product::<Matrices>(2, &y, &x, &mut out).is_err())?;
+    check_eq(Matrices::code(out[0]), Some(1))
+}

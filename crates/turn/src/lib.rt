@@ -13,6 +13,9 @@ use algebra::interface::Semiring;
 
 pub struct Turn;
 
+// there are so many sets of the nine pairs
+const SETS: u32 = 512;
+
 // The pairs (i, j) with bit 3 i in `column` and bit j in `row`: the row, once for each i.
 fn cross(column: u16, row: u16) -> u16
     ensures { λ r. ⌜ r ≡ number (crossed (bits 7 column) (bits 3 row)) ⌝ }
@@ -76,7 +79,7 @@ pub impl Algebra for Turn as TurnAlgebra {
     }
 
     fn value(code: u32) -> Result<Relation, NoValue> {
-        if 0 < code && code < 512 {
+        if 0 < code && code < SETS {
             Ok(Relation { bits: code as u16 })
         } else {
             Err(NoValue)

@@ -12,9 +12,11 @@ use count::CountSemiring;
 use score::Score;
 use score::ScoreAlgebra;
 use score::ScoreSemiring;
+use sheet::FINISH;
+use sheet::START;
 use sheet::Sheet;
 use sheet::build;
-use show::show;
+use show::print_codes;
 use stop::Stop;
 use stop::StopFromIo;
 use stop::StopFromNoValue;
@@ -31,9 +33,9 @@ fn report<A: Algebra>(
 ) -> Result<(), Stop> {
     println!(rt, "algebra {name}")?;
     let weight = weigh::<A>(rt, sheet, TEXT.as_bytes(), running, next)?;
-    show::<A>(rt, "start", &sheet.start)?;
-    show::<A>(rt, "finish", &sheet.finish)?;
-    show::<A>(rt, "weight", &[weight])?;
+    print_codes(rt, "start", &START)?;
+    print_codes(rt, "finish", &FINISH)?;
+    print_codes(rt, "weight", &[A::code(weight)])?;
     Ok(())
 }
 

@@ -22,11 +22,15 @@ fn weights<A: Algebra, const N: usize>(codes: [Option<u32>; N]) -> Result<[A::Va
     Ok(out)
 }
 
+pub const START: [Option<u32>; 2] = [Some(1), None];
+
+pub const FINISH: [Option<u32>; 2] = [Some(1), Some(2)];
+
 // State 0 is outside a word and state 1 inside one; a digit may be read either way.
 pub fn build<A: Algebra>() -> Result<Sheet<A::Value>, NoValue> {
     Ok(Sheet {
-        start: weights::<A, 2>([Some(1), None])?,
-        finish: weights::<A, 2>([Some(1), Some(2)])?,
+        start: weights::<A, 2>(START)?,
+        finish: weights::<A, 2>(FINISH)?,
         space: weights::<A, 4>([Some(1), None, Some(2), None])?,
         digit: weights::<A, 4>([Some(1), Some(2), None, Some(3)])?,
         other: weights::<A, 4>([None, Some(2), None, Some(1)])?,

@@ -7,7 +7,9 @@ ghost use Rattle.walkthrough.specs.Weight.{class-entries, plain-weight};
 use crate::class::Class;
 use crate::class::classify;
 use crate::sheet::Sheet;
-use crate::show::show;
+use crate::show::codes;
+use crate::show::print_codes;
+use crate::show::print_step;
 use crate::stop::Stop;
 use crate::stop::StopFromIo;
 use crate::stop::StopFromMisfit;
@@ -49,15 +51,12 @@ pub fn weigh<A: Algebra>(
     ensures { λ r. ⌜ made r (λ w. w ≡ plain-weight (A·Semiring .ops) (now (sheet .entry)) (now (text .entry))) ⌝ }
 {
     tables::identity::<A>(2, running)?;
-    show::<A>(rt, "identity", running)?;
+    print_codes(rt, "identity", &codes::<A>(running))?;
     for (place, byte) in text.iter().enumerate() {
         let class = classify(*byte);
         let table = class_table(sheet, class);
         multiply::<A>(running, &table, next)?;
-        let number = class as u8;
-        println!(rt, "place {place} class {number}")?;
-        show::<A>(rt, "  times", &table)?;
-        show::<A>(rt, "  gives", running)?;
+        print_step(rt, place, class, &codes::<A>(&table), &codes::<A>(running))?;
     }
     Ok(tables::value::<A>(2, &sheet.start, running, &sheet.finish)?)
 }

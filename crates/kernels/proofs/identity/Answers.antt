@@ -1,7 +1,11 @@
 use mathlib.Core.Path.{_∙_}
 use native.Mathlib.Omega.{arith}
-use Rattle.kernels.proofs.Loops.{rows-more, all-rows}
+use Rattle.kernels.proofs.Loops.{row-long, rows-more, all-rows}
 use Rattle.kernels.proofs.identity.Needs as need
+
+pub identity-row-requires : need.identity-row-requires
+identity-row-requires g c κs =
+    row-long (g .S·Semiring .ops) (c .args .n) (c .loop-p .p) _ (c .loop-p .out) (omega arith) (c .loop-p-test .taken) (c .loop-p .kept .out ∙ c .pre .room)
 
 pub loop-p-again : need.loop-p-again
 loop-p-again g c =

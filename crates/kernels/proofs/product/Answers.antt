@@ -1,8 +1,20 @@
 use mathlib.Core.Path.{_∙_, sym, ap₂}
 use native.Mathlib.Omega.{arith}
 use Rattle.algebra.proofs.Sums.{sum-below}
-use Rattle.kernels.proofs.Loops.{rows-more, all-rows, cell-of, product-row}
+use Rattle.kernels.proofs.Loops.{row-long, rows-more, all-rows, cell-of, product-row}
 use Rattle.kernels.proofs.product.Needs as need
+
+pub product-row-requires : need.product-row-requires
+product-row-requires g c κs =
+    let O = g .S·Semiring .ops in
+    let n = c .args .n in
+    let p = c .loop-p .p in
+    record {
+      size = c .pre .size;
+      row = row-long O n p _ (c .args .x .now) (omega arith) (c .loop-p-test .taken) (c .pre .left);
+      table = c .pre .right;
+      room = row-long O n p _ (c .loop-p .out) (omega arith) (c .loop-p-test .taken) (c .loop-p .kept .out ∙ c .pre .room);
+    }
 
 pub loop-p-again : need.loop-p-again
 loop-p-again g c =

@@ -15,7 +15,7 @@ pub loop-place-again : need.loop-place-again
 loop-place-again g c =
     let O = g .A·Semiring .ops in
     let sheet = c .args .sheet .now in
-    text-more (g .A·Semiring·met .lawful) sheet (c .args .text .now) (c .loop-place .place-counter) _ (c .loop-place .running)
+    text-more (g .A·Semiring·met .lawful) sheet (c .args .text .now) (c .loop-place .place) _ (c .loop-place .running)
     (c .loop-place-test .taken) refl (c .loop-place .inv .1) (c .multiply .last .running)
     (c .in-Continue-multiply .ensures tt
     ∙ ap (product-entries O 2 (c .loop-place .running)) (c .class-table-table .ensures ∙ ap (class-entries sheet) (c .classify-class .ensures)))
@@ -27,4 +27,4 @@ returns g c =
     let text = c .args .text .now in
     c .in-Continue-value .ensures tt .1
     ∙ ap (λ A. between O (sheet .start) A (sheet .finish))
-    (c .loop-place .inv .1 ∙ ap (text-table O sheet) (take-all (c .loop-place .place-counter) text (c .loop-place-test .left)))
+    (c .loop-place .inv .1 ∙ ap (text-table O sheet) (take-all (c .loop-place .place) text (c .loop-place-test .left)))
