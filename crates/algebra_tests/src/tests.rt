@@ -40,8 +40,8 @@ fn calculates<A: Algebra>(rows: &[Row]) -> Result<(), Fail> {
     for Row(a, b, sum, product) in rows {
         let x = weight::<A>(*a)?;
         let y = weight::<A>(*b)?;
-        check_eq(A::code(A::plus(x, y)), *sum)?;
-        check_eq(A::code(A::times(x, y)), *product)?;
+        check(A::code(A::plus(x, y)) == *sum)?;
+        check(A::code(A::times(x, y)) == *product)?;
     }
     Ok(())
 }
@@ -49,7 +49,7 @@ fn calculates<A: Algebra>(rows: &[Row]) -> Result<(), Fail> {
 // Each code has a value, whose code it is.
 fn has_values<A: Algebra>(codes: &[u32]) -> Result<(), Fail> {
     for c in codes {
-        check_eq(A::code(A::value(*c)?), Some(*c))?;
+        check(A::code(A::value(*c)?) == Some(*c))?;
     }
     Ok(())
 }
@@ -139,24 +139,24 @@ fn sums_and_products() -> Result<(), Fail> {
 #[test]
 fn codes_at_their_edges() -> Result<(), Fail> {
     has_values::<Verdict>(&[1])?;
-    check_eq(values_among::<Verdict>(&EDGES), 1)?;
+    check(values_among::<Verdict>(&EDGES) == 1)?;
     has_values::<Score>(&[0, 1, 511, 512, 65_520, 65_521, MOST])?;
-    check_eq(values_among::<Score>(&EDGES), 9)?;
+    check(values_among::<Score>(&EDGES) == 9)?;
     has_values::<Count>(&[1, 511, 512, 65_520])?;
-    check_eq(values_among::<Count>(&EDGES), 5)?;
+    check(values_among::<Count>(&EDGES) == 5)?;
     has_values::<Turn>(&[1, 511])?;
-    check_eq(values_among::<Turn>(&EDGES), 3)?;
+    check(values_among::<Turn>(&EDGES) == 3)?;
     has_values::<Matrices>(&[1, 15])?;
-    check_eq(values_among::<Matrices>(&EDGES), 1)?;
-    check_eq(values_among::<Trivial>(&EDGES), 0)
+    check(values_among::<Matrices>(&EDGES) == 1)?;
+    check(values_among::<Trivial>(&EDGES) == 0)
 }
 
 #[test]
 fn numbers_and_widths() -> Result<(), Fail> {
-    check_eq((Verdict::NUMBER, Verdict::WIDTH), (1, 1))?;
-    check_eq((Score::NUMBER, Score::WIDTH), (2, 4))?;
-    check_eq((Count::NUMBER, Count::WIDTH), (3, 4))?;
-    check_eq((Turn::NUMBER, Turn::WIDTH), (4, 2))
+    check(Verdict::NUMBER == 1 && Verdict::WIDTH == 1)?;
+    check(Score::NUMBER == 2 && Score::WIDTH == 4)?;
+    check(Count::NUMBER == 3 && Count::WIDTH == 4)?;
+    check(Turn::NUMBER == 4 && Turn::WIDTH == 2)
 }
 
 #[test]
@@ -165,7 +165,7 @@ fn tables_of_a_bureaus_own() -> Result<(), Fail> {
     let y = [Matrices::value(4)?];
     let mut out = [Matrices::zero()];
     check(tables::product::<Matrices>(1, &x, &y, &mut out).is_ok())?;
-    check_eq(Matrices::code(out[0]), Some(1))?;
+    check(Matrices::code(out[0]) == Some(1))?;
     check(tables::product::<Matrices>(2, &y, &x, &mut out).is_err())?;
-    check_eq(Matrices::code(out[0]), Some(1))
+    check(Matrices::code(out[0]) == Some(1))
 }
