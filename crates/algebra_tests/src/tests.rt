@@ -46,23 +46,18 @@ fn calculates<A: Algebra>(rows: &[Row]) -> Result<(), Fail> {
     Ok(())
 }
 
-// Each code has a value, whose code it is.
-fn has_values<A: Algebra>(codes: &[u32]) -> Result<(), Fail> {
+// Each of these codes has a value, whose code it is; and of `EDGES` so many have one.
+fn has_values<A: Algebra>(codes: &[u32], among_edges: usize) -> Result<(), Fail> {
     for c in codes {
         check(A::code(A::value(*c)?) == Some(*c))?;
     }
-    Ok(())
-}
-
-// How many of the codes have a value.
-fn values_among<A: Algebra>(codes: &[u32]) -> usize {
     let mut found = 0usize;
-    for c in codes {
-        if A::value(*c).is_ok() {
+    for c in EDGES {
+        if A::value(c).is_ok() {
             found = found.saturating_add(1);
         }
     }
-    found
+    check(found == among_edges)
 }
 
 const VERDICTS: [Row; 4] = [
@@ -138,17 +133,12 @@ fn sums_and_products() -> Result<(), Fail> {
 
 #[test]
 fn codes_at_their_edges() -> Result<(), Fail> {
-    has_values::<Verdict>(&[1])?;
-    check(values_among::<Verdict>(&EDGES) == 1)?;
-    has_values::<Score>(&[0, 1, 511, 512, 65_520, 65_521, MOST])?;
-    check(values_among::<Score>(&EDGES) == 9)?;
-    has_values::<Count>(&[1, 511, 512, 65_520])?;
-    check(values_among::<Count>(&EDGES) == 5)?;
-    has_values::<Turn>(&[1, 511])?;
-    check(values_among::<Turn>(&EDGES) == 3)?;
-    has_values::<Matrices>(&[1, 15])?;
-    check(values_among::<Matrices>(&EDGES) == 1)?;
-    check(values_among::<Trivial>(&EDGES) == 0)
+    has_values::<Verdict>(&[1], 1)?;
+    has_values::<Score>(&[0, 1, 511, 512, 65_520, 65_521, MOST], 9)?;
+    has_values::<Count>(&[1, 511, 512, 65_520], 5)?;
+    has_values::<Turn>(&[1, 511], 3)?;
+    has_values::<Matrices>(&[1, 15], 1)?;
+    has_values::<Trivial>(&[], 0)
 }
 
 #[test]

@@ -8,7 +8,7 @@ ghost use Rattle.tables.specs.Answers.{Tested, Written, Answered};
 use algebra::interface::Semiring;
 
 // The refusal of a size that is not from one to four, or of a slice of another length.
-#[derive(Clone, Copy, Debug)]
+#[derive(Clone, Copy)]
 pub struct Misfit;
 
 fn test_table(n: usize, entries: usize) -> Result<(), Misfit>
