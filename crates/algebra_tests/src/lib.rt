@@ -1,4 +1,6 @@
 // Known results of the algebras, proved of their definitions and run.
+#![tactic(auto)]
+
 ghost use Rattle.algebra_tests.specs.Known.{KnownResults};
 
 #[cfg(test)]

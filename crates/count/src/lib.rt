@@ -1,4 +1,6 @@
 // Count: numbers modulo a prime, for the number of a text's runs.
+#![tactic(auto)]
+
 ghost use Rattle.count.specs.Count.{counts, count_codes};
 ghost use Rattle.count.specs.Counts.{count_laws, count_coded};
 

@@ -1,4 +1,6 @@
 // The inner loops over square tables of weights, for slices that are known to fit.
+#![tactic(auto)]
+
 ghost use Rattle.std.specs.Prelude.{◌≡◌, ℕ, ◌+◌, ◌*◌, ◌<◌, ◌≤◌, map, length, if◌then◌else◌, nat_eq};
 ghost use Rattle.std.specs.List.{range_with_len};
 ghost use Rattle.kernels.specs.Entries.{SlicesHoldTables, identity_entries, sum_entries, product_entries, value_between, row_by_column};

@@ -1,3 +1,5 @@
 // Nested words, the runs of a sheet on them, and summaries: what the library means, and the theorems about it.
+#![tactic(auto)]
+
 pub mod theorems;
 pub mod token;

@@ -14,7 +14,7 @@ pub fn text_has_a_matching()
 {}
 
 pub fn matching_is_unique<R: Relation>()
-    ensures { MatchingIsUnique edges }
+    ensures { MatchingIsUnique R.edges }
 {}
 
 pub fn join_is_associative<S: Semiring>()

@@ -1,4 +1,6 @@
 // Tables of weights at places of one lent slice, for places that are known to fit.
+#![tactic(auto)]
+
 ghost use Rattle.std.specs.Prelude.{◌≡◌, ℕ, ◌+◌, ◌*◌, ◌<◌, length};
 ghost use Rattle.algebra.specs.Semiring.{sum_to};
 ghost use Rattle.algebra.specs.Tables.{table_zero, table_one, table_plus, table_times};

@@ -1,4 +1,6 @@
 // Score: none, or points up to a cap. The sum is the better of two, the product adds.
+#![tactic(auto)]
+
 ghost use Rattle.score.specs.Score.{scores, score_codes};
 ghost use Rattle.score.specs.Scores.{score_laws, score_coded};
 

@@ -1,4 +1,6 @@
 // Square tables of weights in lent slices, row by row.
+#![tactic(auto)]
+
 ghost use Rattle.std.specs.Prelude.{◌≡◌, ℕ, ◌*◌, length};
 ghost use Rattle.kernels.specs.Entries.{identity_entries, sum_entries, product_entries, value_between};
 ghost use Rattle.kernels.specs.Sizes.{Size, Long, Square};
@@ -7,7 +9,7 @@ ghost use Rattle.tables.specs.Answers.{Tested, Written, Answered};
 use algebra::interface::Semiring;
 
 // The refusal of a size that is not from one to four, or of a slice of another length.
-#[derive(Clone, Copy)]
+#[derive(Clone, Copy, Debug)]
 pub struct Misfit;
 
 fn test_table(n: usize, entries: usize) -> Result<(), Misfit>

@@ -1,6 +1,6 @@
 -- Turn: sets of pairs (i, j) of the directions 0, 1, 2. The sum is the union, the product the composition of
 -- relations. Each set but the empty one has its bits as code: bit 3 i + j for the pair (i, j).
-use Rattle.std.specs.Prelude.{ℕ, ◌+◌, ◌*◌, Bool, false, List, [], ◌∷◌, slice_index_or}
+use Rattle.std.specs.Prelude.{ℕ, ◌+◌, ◌*◌, Bool, false, List, [], ◌∷◌, slice_index_or, nat_eq}
 use Rattle.turn.specs.declared.relation.Relation.{Relation}
 use Rattle.algebra.specs.Semiring.{Ops, sum_to}
 use Rattle.algebra.specs.Codes.{Codes, own_codes}
@@ -26,7 +26,7 @@ crossed ps qs = nine_of (λ i j. and (slice_index_or ps (3 * i) false) (slice_in
 abbrev pub turns : Ops Relation
 turns = record {
   zero = pairs_with (λ i j. false);
-  one = pairs_with eqb;
+  one = pairs_with nat_eq;
   plus = λ x y. pairs_with (λ i j. or (has x i j) (has y i j));
   -- (i, m) is in x and (m, j) in y for some m
   times = λ x y. pairs_with (λ i j. sum_to verdicts 3 (λ m. and (has x i m) (has y m j)));

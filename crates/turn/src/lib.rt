@@ -1,4 +1,6 @@
 // Turn: relations on three directions, under union and composition.
+#![tactic(auto)]
+
 ghost use Rattle.std.specs.Prelude.{◌≡◌, [], ◌∷◌};
 ghost use Rattle.algebra.specs.Bits.{bits, number};
 ghost use Rattle.turn.specs.Turn.{turns, turn_codes, crossed};

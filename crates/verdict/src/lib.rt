@@ -1,4 +1,6 @@
 // Verdict: no or yes.
+#![tactic(auto)]
+
 ghost use Rattle.verdict.specs.Verdict.{verdicts, verdict_codes};
 ghost use Rattle.verdict.specs.Verdicts.{verdict_laws};
 ghost use Rattle.std.proofs.Common.{rules};

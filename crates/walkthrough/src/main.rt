@@ -1,4 +1,6 @@
 // Weighs a short text without tags, step by step, under the score algebra and again under count.
+#![tactic(auto)]
+
 mod class;
 mod sheet;
 mod show;

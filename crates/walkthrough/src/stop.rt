@@ -3,7 +3,7 @@ use algebra::interface::NoValue;
 use std::io;
 use tables::Misfit;
 
-#[derive(Drop)]
+#[derive(Debug, Drop)]
 pub enum Stop {
     Code(NoValue),
     Table(Misfit),

@@ -3,8 +3,8 @@ use Rattle.algebra.proofs.Sums.{sum_below}
 use Rattle.kernels.proofs.Loops.{row_long, rows_more, all_rows, cell_of, product_row}
 use Rattle.kernels.proofs.product.Goals as goal
 
-pub product-row-requires : goal.product-row-requires
-product-row-requires g c =
+pub product_row-requires : goal.product_row-requires
+product_row-requires g c =
     let O = g.S.Semiring.ops in
     let n = c.args.n in
     let p = c.loop-p.p in

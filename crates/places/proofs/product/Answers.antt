@@ -4,14 +4,14 @@ use Rattle.places.proofs.Frames.{parts_apart, kept_wider}
 use Rattle.places.proofs.Writes.{one_row_more, product_made}
 use Rattle.places.proofs.product.Goals as goal
 
-pub overflow-add-x : goal.overflow-add-x
-overflow-add-x g c = let e = row_end c.args.n c.loop-p.p c.loop-p-test.true in omega (arith, e)
+pub overflow_add-x : goal.overflow_add-x
+overflow_add-x g c = let e = row_end c.args.n c.loop-p.p c.loop-p-test.true in omega (arith, e)
 
-pub overflow-add-out : goal.overflow-add-out
-overflow-add-out g c = let e = row_end c.args.n c.loop-p.p c.loop-p-test.true in omega (arith, e)
+pub overflow_add-out : goal.overflow_add-out
+overflow_add-out g c = let e = row_end c.args.n c.loop-p.p c.loop-p-test.true in omega (arith, e)
 
-pub product-row-requires : goal.product-row-requires
-product-row-requires g c =
+pub product_row-requires : goal.product_row-requires
+product_row-requires g c =
     let n = c.args.n in
     let p = c.loop-p.p in
     let e = row_end n p c.loop-p-test.true in

@@ -3,8 +3,8 @@ use Rattle.kernels.proofs.Loops.{row_end}
 use Rattle.places.proofs.Writes.{one_more, part_long, column_entry}
 use Rattle.places.proofs.product_row.Goals as goal
 
-pub overflow-add-y : goal.overflow-add-y
-overflow-add-y g c = let e = row_end c.args.n c.loop-q.q c.loop-q-test.true in omega (arith, e)
+pub overflow_add-y : goal.overflow_add-y
+overflow_add-y g c = let e = row_end c.args.n c.loop-q.q c.loop-q-test.true in omega (arith, e)
 
 pub dot-entry-requires : goal.dot-entry-requires
 dot-entry-requires g c = λ r h.

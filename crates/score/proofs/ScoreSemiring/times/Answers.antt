@@ -4,4 +4,4 @@ use Rattle.score.specs.Scores.{same}
 use Rattle.score.proofs.ScoreSemiring.times.Goals as goal
 
 pub returns : goal.returns
-returns c = same c.min.ensures ∙ sym (ap₂ score_times c.in-ok-x.was c.in-ok-y.was)
+returns c = same c.min.ensures ∙ sym (ap₂ score_times c.in_ok-x.was c.in_ok-y.was)
