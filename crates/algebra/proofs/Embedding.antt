@@ -1,5 +1,5 @@
 -- What embeds into a semiring, keeping its operations, is a semiring.
-use Rattle.std.proofs.Common.{◌≡◌, sym, refl, ap, ◌∙◌, ap₂}
+use Rattle.std.proofs.Common.{◌≡◌, sym, ap, ◌∙◌, ap₂}
 use Rattle.algebra.specs.Semiring.{Ops, Laws}
 
 pub record Keeps {A B : Type 0} (f : A → B) (P : Ops A) (O : Ops B) : Type 0 where

@@ -1,8 +1,8 @@
 -- Values that are numbered, each number but 0 its own code, have codes one to one.
-use Rattle.std.proofs.Common.{◌≡◌, ℕ, zero, suc, ◌^◌, ◌<◌, ◌≤◌, Bool, true, false, cond, eqb, Some, None, Ok, Err, Option, sym, refl, ap, ◌∙◌, arith}
+use Rattle.std.proofs.Common.{◌≡◌, ℕ, zero, suc, ◌^◌, ◌<◌, ◌≤◌, Bool, true, false, cond, eqb, Some, None, Ok, sym, refl, ap, ◌∙◌, arith}
 use native.Mathlib.Decide.{dec_lt}
 use Rattle.std.proofs.lemmas.Bool.{eq-eqb, ne_eqb, eqb-true, eqb-false}
-use Rattle.algebra.specs.Codes.{Coded, own_code, own_value, own_codes}
+use Rattle.algebra.specs.Codes.{Coded, own_value, own_codes}
 
 -- by whether the number n is 0
 code_none : (n : ℕ) (b : Bool) → eqb n 0 ≡ b → cond b None (Some n) ≡ None → n ≡ 0

@@ -1,6 +1,5 @@
 -- Known results, computed from the definitions of the algebras.
 use Rattle.std.specs.Prelude.{◌≡◌, ℕ, Some, None, Ok, Option}
-use Rattle.algebra.specs.Semiring.{Ops}
 use Rattle.algebra.specs.Codes.{Codes}
 use Rattle.score.specs.Score.{scores, score_codes}
 use Rattle.count.specs.Count.{counts, count_codes}

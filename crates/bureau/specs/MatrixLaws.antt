@@ -1,9 +1,9 @@
 -- The matrices of bits are a semiring, as the 2 by 2 tables over the field; and their codes are one to one.
-use Rattle.std.specs.Prelude.{◌≡◌, ◌<◌, Bool, false, List, [], ◌∷◌, slice_index_or, refl}
+use Rattle.std.specs.Prelude.{◌≡◌, Bool, false, List, [], ◌∷◌, slice_index_or, refl}
 use Rattle.std.proofs.Common.{sym, ap, ◌∙◌, rules, lit<, lit≤}
 use Rattle.algebra.specs.Semiring.{Laws}
 use Rattle.algebra.specs.Codes.{Coded}
-use Rattle.algebra.specs.Bits.{bits, number, number_below}
+use Rattle.algebra.specs.Bits.{bits, number_below}
 use Rattle.algebra.specs.Tables.{Table, filled}
 use Rattle.algebra.proofs.BitLists.{bits-number, number-bits}
 use Rattle.algebra.proofs.Embedding.{embedded}

@@ -1,5 +1,5 @@
 -- The trivial algebra: one value, which is zero and one, and has no code.
-use Rattle.std.specs.Prelude.{ℕ, None, Err}
+use Rattle.std.specs.Prelude.{None, Err}
 use Rattle.algebra.specs.Semiring.{Ops}
 use Rattle.algebra.specs.Codes.{Codes, no_value}
 

@@ -1,6 +1,6 @@
 -- Theorems on nested words, runs and summaries, stated for the operations of a semiring; the functions that bear them ask for
 -- its laws.
-use Rattle.std.specs.Prelude.{◌≡◌, ℕ, ◌+◌, ◌-◌, ◌↔◌, List, [], ◌∷◌, ◌++◌, map, length, ◌≢◌}
+use Rattle.std.specs.Prelude.{◌≡◌, ◌+◌, ◌-◌, ◌↔◌, List, [], ◌∷◌, ◌++◌, map, length, ◌≢◌}
 use mathlib.Core.List.{Memᴰ}
 use Rattle.algebra.specs.Semiring.{Ops, sum_over}
 use Rattle.nested.specs.declared.token.Token.{Token}

@@ -1,6 +1,6 @@
 -- Score: none, or up to a thousand million points. The sum is the larger, none least; the product adds the points
 -- up to that cap, and is none if either is none. A score's code is its points.
-use Rattle.std.specs.Prelude.{ℕ, ◌+◌, ◌≤◌, min, max, Bool, true, false, Some, None, Ok, Err, Option, Result}
+use Rattle.std.specs.Prelude.{ℕ, ◌+◌, ◌≤◌, min, max, Some, None, Ok, Err, Option, Result}
 use Rattle.std.proofs.Common.{arith}
 use Rattle.std.proofs.Math.Decide.{dec_le}
 use Rattle.algebra.specs.declared.interface.NoValue.{NoValue}

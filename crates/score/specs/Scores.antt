@@ -1,14 +1,13 @@
 -- The scores are a semiring, and their codes are one to one.
-use Rattle.std.specs.Prelude.{◌≡◌, ℕ, ◌<◌, ◌≤◌, Some, None, Ok, Err, Option, Result, refl}
+use Rattle.std.specs.Prelude.{◌≡◌, ℕ, ◌<◌, ◌≤◌, Some, None, Ok, Option, refl}
 use Rattle.std.proofs.Common.{sym, ap, ◌∙◌, arith, lit<, lit≤}
 use mathlib.Core.HLevel.{is_prop→PathP}
 use Rattle.std.proofs.Math.Bridge.{le_prop}
 use Rattle.std.proofs.Math.Decide.{dec_le}
-use Rattle.algebra.specs.declared.interface.NoValue.{NoValue}
 use Rattle.score.specs.declared.points.Points.{Points}
 use Rattle.algebra.specs.Semiring.{Laws}
 use Rattle.algebra.specs.Codes.{Coded}
-use Rattle.score.specs.Score.{most, capped, larger, score_plus, score_times, scores, score_code, score_of, score_codes}
+use Rattle.score.specs.Score.{most, capped, score_plus, score_times, scores, score_code, score_of, score_codes}
 
 -- the ghost field has one proof at most
 same_points : (a b : Points) → a.points ≡ b.points → a ≡ b

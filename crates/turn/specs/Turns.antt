@@ -1,5 +1,5 @@
 -- The relations are a semiring, since they are the 3 by 3 tables of verdicts; and their codes are one to one.
-use Rattle.std.specs.Prelude.{◌≡◌, ℕ, ◌*◌, ◌/◌, ◌<◌, Bool, true, false, List, [], ◌∷◌, Ok, ◌≢◌, bit_and, bit_or, refl}
+use Rattle.std.specs.Prelude.{◌≡◌, ℕ, ◌*◌, ◌/◌, ◌<◌, Bool, true, false, [], ◌∷◌, Ok, ◌≢◌, bit_and, bit_or, refl}
 use Rattle.std.proofs.Common.{sym, ap, ap₂, ◌∙◌, arith, lit<, lit≤}
 use mathlib.Core.HLevel.{is_prop→PathP}
 use Rattle.std.proofs.Math.Bridge.{le_prop}
@@ -8,10 +8,10 @@ use Rattle.turn.specs.declared.relation.Relation.{Relation}
 use Rattle.algebra.specs.Semiring.{Laws}
 use Rattle.algebra.specs.Codes.{Coded}
 use Rattle.algebra.specs.Bits.{bits, number}
-use Rattle.algebra.specs.Tables.{Table, filled, table_ops}
+use Rattle.algebra.specs.Tables.{Table, filled}
 use Rattle.verdict.specs.Verdicts.{verdict_laws}
-use Rattle.verdict.specs.Verdict.{and, verdicts}
-use Rattle.turn.specs.Turn.{has, pairs_with, crossed, turns, turn_codes}
+use Rattle.verdict.specs.Verdict.{and}
+use Rattle.turn.specs.Turn.{crossed, turns, turn_codes}
 use Rattle.algebra.proofs.BitLists.{bits-number, number-bits}
 use Rattle.turn.specs.BitLists.{ors, or_number, and_bits}
 use Rattle.algebra.proofs.Embedding.{embedded}

@@ -1,5 +1,5 @@
 -- The class of a byte: 0 for tab, line feed, carriage return and space, 1 for the digits, 2 for any other.
-use Rattle.std.specs.Prelude.{ℕ, Bool, true, false, cond, ◌&&◌, ◌||◌, ◌==◌, nat_le}
+use Rattle.std.specs.Prelude.{ℕ, Bool, cond, ◌&&◌, ◌||◌, ◌==◌, nat_le}
 use Rattle.walkthrough.specs.declared.class.Class.{Class}
 use Rattle.walkthrough.specs.declared.class.Class.TheVariants.{Space, Digit, Other}
 

@@ -1,4 +1,4 @@
-use Rattle.std.proofs.Common.{◌≡◌, ◌+◌, ◌*◌, ap, arith}
+use Rattle.std.proofs.Common.{◌≡◌, ◌*◌, ap, arith}
 use Rattle.kernels.proofs.Loops.{row_end}
 use Rattle.places.proofs.Frames.{parts_apart, kept_wider}
 use Rattle.places.proofs.Writes.{one_row_more, product_made}

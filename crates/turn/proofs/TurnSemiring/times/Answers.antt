@@ -1,5 +1,4 @@
-use Rattle.std.proofs.Common.{◌≡◌, ◌<◌, sym, subst}
-use lib.Bits.{bit_or}
+use Rattle.std.proofs.Common.{◌<◌, sym, subst}
 use Rattle.turn.specs.Turn.{turns}
 use Rattle.turn.specs.Turns.{same, composition}
 use Rattle.turn.proofs.TurnSemiring.times.Goals as goal
