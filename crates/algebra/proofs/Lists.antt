@@ -4,7 +4,7 @@ use mathlib.Core.Path.{fun_ext}
 use mathlib.Core.List.Memᴰ
 use mathlib.Core.List.{Memᴰ, head-eq_of_cons-eq, tail-eq_of_cons-eq}
 use native.Mathlib.Decide.{ℕ_discrete}
-use Rattle.std.specs.List.{AllByRecursion as All}
+use Rattle.std.specs.List.{AllByRecursion}
 use Rattle.algebra.specs.Semiring.{Ops, Laws, sum_over, fronts, all_lists, Listed}
 use Rattle.algebra.proofs.Sums.{zero_plus}
 use Rattle.algebra.proofs.TableLaws.{sum_single}
@@ -18,7 +18,7 @@ in_fronts (suc n) ls r rs h m = go (ℕ_discrete r n) (λ below. in_fronts n ls 
     go (yes e) before = Memᴰ.append_right (fronts n ls) (Memᴰ.cast (ap (λ x. x ∷ rs) e) (Memᴰ.map (λ l. n ∷ l) m))
     go (no ne) before = Memᴰ.append_left _ (before (omega arith))
 
-pub in_all_lists : (n : ℕ) (rs : List ℕ) → All (λ r. r < n) rs → Memᴰ rs (all_lists n (length rs))
+pub in_all_lists : (n : ℕ) (rs : List ℕ) → AllByRecursion (λ r. r < n) rs → Memᴰ rs (all_lists n (length rs))
 in_all_lists n [] all = Memᴰ.head refl
 in_all_lists n (r ∷ rs) all = in_fronts n (all_lists n (length rs)) r rs all.0 (in_all_lists n rs all.1)
 
@@ -49,7 +49,7 @@ module _ {T : Type 0} {O : Ops T} (S : Laws O) where
   over_zero [] = refl
   over_zero (x ∷ xs) = zero_plus S _ ∙ over_zero xs
 
-  pub over_single : (n : ℕ) (rs : List ℕ) (f : List ℕ → T) → All (λ r. r < n) rs → ((l : List ℕ) → (l ≡ rs → ⊥) → f l ≡ O.zero) → sum_over O (all_lists n (length rs)) f ≡ f rs
+  pub over_single : (n : ℕ) (rs : List ℕ) (f : List ℕ → T) → AllByRecursion (λ r. r < n) rs → ((l : List ℕ) → (l ≡ rs → ⊥) → f l ≡ O.zero) → sum_over O (all_lists n (length rs)) f ≡ f rs
   over_single n [] f all others = S.plus_zero (f [])
   over_single n (r ∷ rs) f all others =
       over_fronts S n (all_lists n (length rs)) f

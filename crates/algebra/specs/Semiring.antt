@@ -1,6 +1,6 @@
 -- Semirings whose product need not commute, with their finite sums and products.
 use Rattle.std.specs.Prelude.{◌≡◌, ℕ, ◌<◌, List, [], ◌∷◌, ◌++◌, map, length}
-use Rattle.std.specs.List.{AllByRecursion as All}
+use Rattle.std.specs.List.{AllByRecursion}
 
 -- the operations of a semiring of values V
 pub record Ops (V : Type 0) : Type 0 where
@@ -49,4 +49,4 @@ all_lists n (ℕ.suc k) = fronts n (all_lists n k)
 
 -- a list of k numbers below n
 abbrev pub Listed : ℕ → ℕ → List ℕ → Type 0
-Listed n k rs = (length rs ≡ k) × All (λ r. r < n) rs
+Listed n k rs = (length rs ≡ k) × AllByRecursion (λ r. r < n) rs
