@@ -1,3 +1,4 @@
+pub mod BelowLaws
 pub mod BitLists
 pub mod Embedding
 pub mod Lists

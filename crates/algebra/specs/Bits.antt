@@ -1,5 +1,5 @@
 -- The bits of a number, lowest first.
-use Rattle.std.specs.Prelude.{ℕ, zero, suc, ◌+◌, ◌*◌, ◌/◌, ◌%◌, ◌^◌, ◌<◌, Bool, true, false, cond, List, [], ◌∷◌, length, ◌==◌}
+use Rattle.std.specs.Prelude.{ℕ, zero, suc, ◌+◌, ◌*◌, ◌/◌, ◌%◌, ◌^◌, ◌<◌, Bool, true, false, if◌then◌else◌, List, [], ◌∷◌, length, ◌==◌}
 use Rattle.std.proofs.Math.Nat.{pow-succ'}
 use Rattle.std.proofs.Common.{arith}
 
@@ -11,7 +11,7 @@ bits (suc k) n = (n % 2 == 1) ∷ bits k (n / 2)
 -- the number with these bits
 abbrev pub number : List Bool → ℕ
 number [] = 0
-number (b ∷ bs) = cond b 1 0 + 2 * number bs
+number (b ∷ bs) = (if b then 1 else 0) + 2 * number bs
 
 pub number_below : (bs : List Bool) → number bs < 2 ^ length bs
 number_below [] = omega arith

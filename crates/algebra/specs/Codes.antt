@@ -1,5 +1,5 @@
 -- The codes by which weights are written as bytes.
-use Rattle.std.specs.Prelude.{◌≡◌, ℕ, zero, suc, ◌^◌, ◌<◌, ◌≤◌, cond, Some, None, Ok, Err, Option, Result, ◌==◌}
+use Rattle.std.specs.Prelude.{◌≡◌, ℕ, zero, suc, ◌^◌, ◌<◌, ◌≤◌, if◌then◌else◌, Some, None, Ok, Err, Option, Result, ◌==◌}
 use Rattle.std.proofs.Math.Decide.{dec_lt}
 use Rattle.algebra.specs.declared.interface.NoValue.{NoValue}
 
@@ -13,6 +13,11 @@ pub record Codes (V : Type 0) : Type 0 where
   pub width : ℕ
   pub code : V → Option ℕ
   pub value : ℕ → Result V NoValue
+
+-- the value with a code, or zero for none
+abbrev pub weight_of : {V : Type 0} → V → Codes V → Option ℕ → Result V NoValue
+weight_of none C None = Ok none
+weight_of none C (Some c) = C.value c
 
 -- every value but zero has one code, which fits the width and which no other value has
 pub record Coded {V : Type 0} (zero : V) (C : Codes V) : Type 0 where
@@ -28,7 +33,7 @@ pub record Coded {V : Type 0} (zero : V) (C : Codes V) : Type 0 where
 -- codes for values that stand for the numbers below a bound: each number but 0 is its own code
 module _ {V : Type 0} (number_of : V → ℕ) (bound : ℕ) (with_number : (c : ℕ) → c < bound → V) where
   abbrev pub own_code : V → Option ℕ
-  own_code v = cond (number_of v == 0) None (Some (number_of v))
+  own_code v = if number_of v == 0 then None else Some (number_of v)
 
   abbrev pub own_value : (c : ℕ) → Dec (c < bound) → Result V NoValue
   own_value zero below = Err no_value

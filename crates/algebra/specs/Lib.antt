@@ -3,3 +3,4 @@ pub mod Tables
 pub mod Codes
 pub mod Bits
 pub mod Theorems
+pub mod Below

@@ -1,5 +1,5 @@
 -- Square tables of values, row by row, and the walks through a list of them.
-use Rattle.std.specs.Prelude.{◌≡◌, ℕ, ◌+◌, ◌*◌, ◌/◌, ◌%◌, cond, List, [], ◌∷◌, map, length, ◌==◌, slice_index_or}
+use Rattle.std.specs.Prelude.{◌≡◌, ℕ, ◌+◌, ◌*◌, ◌/◌, ◌%◌, if◌then◌else◌, List, [], ◌∷◌, map, length, ◌==◌, slice_index_or}
 use Rattle.std.specs.List.{range_with_len}
 use Rattle.std.proofs.lemmas.List.FromFn.{length-map-range_with_len}
 use Rattle.algebra.specs.Semiring.{Ops, sum_to}
@@ -26,7 +26,7 @@ module _ {V : Type 0} (O : Ops V) where
 
   -- the identity: one on the diagonal, zero elsewhere
   abbrev pub table_one : (n : ℕ) → Table V n
-  table_one n = filled n (λ p q. cond (p == q) O.one O.zero)
+  table_one n = filled n (λ p q. if p == q then O.one else O.zero)
 
   abbrev pub table_plus : {n : ℕ} → Table V n → Table V n → Table V n
   table_plus {n} A B = filled n (λ p q. O.plus (cell A p q) (cell B p q))

@@ -1,7 +1,9 @@
 // What a weight algebra has and owes.
-ghost use Rattle.std.specs.Prelude.{◌≡◌};
+ghost use Rattle.std.specs.Prelude.{◌≡◌, ℕ};
 ghost use Rattle.algebra.specs.Semiring.{Ops, Laws};
-ghost use Rattle.algebra.specs.Codes.{Codes, Coded};
+ghost use Rattle.algebra.specs.Codes.{Codes, Coded, weight_of};
+
+use thiserror::Error;
 
 // Values that can be added and multiplied. The product need not commute, and zero may be one.
 pub trait Semiring {
@@ -25,7 +27,8 @@ pub trait Semiring {
 }
 
 // The refusal of a code that no value has.
-#[derive(Clone, Copy, Debug)]
+#[derive(Clone, Copy, Debug, PartialEq, Eq, Error)]
+#[error("no value has this code")]
 pub struct NoValue;
 
 // A weight algebra: a semiring whose values, but for zero, have codes.
@@ -35,15 +38,11 @@ pub trait Algebra: Semiring {
     // the bytes of a code
     const WIDTH: usize;
 
+    ghost NUMBER: { ℕ };
+
+    ghost WIDTH: { ℕ };
+
     ghost codes: { Codes Self.Value };
-
-    // `NUMBER`, for clauses, which cannot cite a constant
-    fn algebra_number() -> u8
-        ensures { result ≡ codes.number };
-
-    // `WIDTH`, likewise
-    fn code_width() -> usize
-        ensures { result ≡ codes.width };
 
     fn code(value: Self::Value) -> Option<u32>
         ensures { result ≡ codes.code value };
@@ -51,5 +50,17 @@ pub trait Algebra: Semiring {
     fn value(code: u32) -> Result<Self::Value, NoValue>
         ensures { result ≡ codes.value code };
 
-    ghost coded: { Coded Self.Semiring.ops.zero codes };
+    ghost published: { (NUMBER ≡ codes.number) × (WIDTH ≡ codes.width) };
+
+    ghost coded: { Coded Self.ops.zero codes };
+}
+
+// The value with this code, or zero for none.
+pub fn weight<A: Algebra>(code: Option<u32>) -> Result<A::Value, NoValue>
+    ensures { result ≡ weight_of A.ops.zero A.codes code }
+{
+    match code {
+        Some(code) => A::value(code),
+        None => Ok(A::zero()),
+    }
 }

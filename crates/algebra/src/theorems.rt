@@ -4,11 +4,11 @@ ghost use Rattle.algebra.specs.Theorems.{ListsAreAll, ListsStandOnce, TablesAreA
 use crate::interface::Semiring;
 
 pub fn tables_are_a_semiring<S: Semiring>(n: usize)
-    ensures { TablesAreASemiring S.Semiring.ops n }
+    ensures { TablesAreASemiring S.ops n }
 {}
 
 pub fn products_sum_walks<S: Semiring>(n: usize)
-    ensures { ProductsSumWalks S.Semiring.ops n }
+    ensures { ProductsSumWalks S.ops n }
 {}
 
 pub fn lists_are_all()
@@ -16,5 +16,5 @@ pub fn lists_are_all()
 {}
 
 pub fn lists_stand_once<S: Semiring>()
-    ensures { ListsStandOnce S.Semiring.ops }
+    ensures { ListsStandOnce S.ops }
 {}

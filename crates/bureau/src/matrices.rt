@@ -1,9 +1,14 @@
 // 2 by 2 matrices over the field of two elements.
+ghost use Rattle.std.specs.Prelude.{refl};
 ghost use Rattle.bureau.specs.Matrices.{matrices, matrix_codes};
 ghost use Rattle.bureau.specs.MatrixLaws.{matrix_laws, matrix_coded};
 
 use crate::matrix::Matrix;
+use algebra::below::Below;
 use algebra::interface::{Algebra, NoValue, Semiring};
+
+// there are so many matrices of four bits
+const MATRICES: u32 = 16;
 
 pub struct Matrices;
 
@@ -56,33 +61,28 @@ impl Algebra for Matrices {
 
     const WIDTH: usize = 1;
 
+    ghost NUMBER = { matrix_codes.number };
+
+    ghost WIDTH = { matrix_codes.width };
+
     ghost codes = { matrix_codes };
+
+    ghost published = { (refl, refl) };
 
     ghost coded = { matrix_coded };
 
-    fn algebra_number() -> u8 {
-        Self::NUMBER
-    }
-
-    fn code_width() -> usize {
-        Self::WIDTH
-    }
-
     fn code(value: Matrix) -> Option<u32> {
-        let code = value.a as u32 + 2 * value.b as u32 + 4 * value.c as u32 + 8 * value.d as u32;
-        if code == 0 { None } else { Some(code) }
+        let number = value.a as u32 + 2 * value.b as u32 + 4 * value.c as u32 + 8 * value.d as u32;
+        Below::<MATRICES> { number }.own_code()
     }
 
     fn value(code: u32) -> Result<Matrix, NoValue> {
-        if 0 < code && code < 16 {
-            Ok(Matrix {
-                a: code % 2 == 1,
-                b: code / 2 % 2 == 1,
-                c: code / 4 % 2 == 1,
-                d: code / 8 % 2 == 1,
-            })
-        } else {
-            Err(NoValue)
-        }
+        let number = Below::<MATRICES>::with_own_code(code)?.number;
+        Ok(Matrix {
+            a: number % 2 == 1,
+            b: number / 2 % 2 == 1,
+            c: number / 4 % 2 == 1,
+            d: number / 8 % 2 == 1,
+        })
     }
 }

@@ -1,4 +1,5 @@
 // The trivial algebra, where zero is one.
+ghost use Rattle.std.specs.Prelude.{refl};
 ghost use Rattle.bureau.specs.Trivial.{trivial_ops, trivial_codes};
 ghost use Rattle.std.proofs.Common.{rules};
 
@@ -27,17 +28,15 @@ impl Algebra for Trivial {
 
     const WIDTH: usize = 1;
 
+    ghost NUMBER = { trivial_codes.number };
+
+    ghost WIDTH = { trivial_codes.width };
+
     ghost codes = { trivial_codes };
 
+    ghost published = { (refl, refl) };
+
     ghost coded = { Prim.search rules };
-
-    fn algebra_number() -> u8 {
-        Self::NUMBER
-    }
-
-    fn code_width() -> usize {
-        Self::WIDTH
-    }
 
     fn code(_value: ()) -> Option<u32> {
         None

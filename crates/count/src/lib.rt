@@ -1,17 +1,18 @@
 // Count: numbers modulo a prime, for the number of a text's runs.
 #![tactic(auto)]
 
+ghost use Rattle.std.specs.Prelude.{refl};
 ghost use Rattle.count.specs.Count.{counts, count_codes};
 ghost use Rattle.count.specs.Counts.{count_laws, count_coded};
 
-pub mod residue;
-
-use crate::residue::Residue;
+use algebra::below::Below;
 use algebra::interface::{Algebra, NoValue, Semiring};
 
-pub struct Count;
-
 const MODULUS: u32 = 65_521;
+
+pub type Residue = Below<MODULUS>;
+
+pub struct Count;
 
 impl Semiring for Count {
     type Value = Residue;
@@ -21,22 +22,22 @@ impl Semiring for Count {
     ghost lawful = { count_laws };
 
     fn zero() -> Residue {
-        Residue { residue: 0 }
+        Below { number: 0 }
     }
 
     fn one() -> Residue {
-        Residue { residue: 1 }
+        Below { number: 1 }
     }
 
     fn plus(a: Residue, b: Residue) -> Residue {
-        Residue {
-            residue: (a.residue + b.residue) % MODULUS,
+        Below {
+            number: (a.number + b.number) % MODULUS,
         }
     }
 
     fn times(a: Residue, b: Residue) -> Residue {
-        Residue {
-            residue: a.residue * b.residue % MODULUS,
+        Below {
+            number: a.number * b.number % MODULUS,
         }
     }
 }
@@ -46,31 +47,21 @@ impl Algebra for Count {
 
     const WIDTH: usize = 4;
 
+    ghost NUMBER = { count_codes.number };
+
+    ghost WIDTH = { count_codes.width };
+
     ghost codes = { count_codes };
+
+    ghost published = { (refl, refl) };
 
     ghost coded = { count_coded };
 
-    fn algebra_number() -> u8 {
-        Self::NUMBER
-    }
-
-    fn code_width() -> usize {
-        Self::WIDTH
-    }
-
     fn code(value: Residue) -> Option<u32> {
-        if value.residue == 0 {
-            None
-        } else {
-            Some(value.residue)
-        }
+        value.own_code()
     }
 
     fn value(code: u32) -> Result<Residue, NoValue> {
-        if 0 < code && code < MODULUS {
-            Ok(Residue { residue: code })
-        } else {
-            Err(NoValue)
-        }
+        Below::with_own_code(code)
     }
 }

@@ -1,20 +1,14 @@
 -- The scores are a semiring, and their codes are one to one.
-use Rattle.std.specs.Prelude.{◌≡◌, ℕ, ◌<◌, ◌≤◌, Some, None, Ok, Option, refl}
-use Rattle.std.proofs.Common.{sym, ap, ◌∙◌, arith, lit<, lit≤}
-use mathlib.Core.HLevel.{is_prop→PathP}
-use Rattle.std.proofs.Math.Bridge.{le_prop}
-use Rattle.std.proofs.Math.Decide.{dec_le}
-use Rattle.score.specs.declared.points.Points.{Points}
+use Rattle.std.specs.Prelude.{◌≡◌, ℕ, ◌+◌, ◌<◌, Some, None, Ok, Option, refl}
+use Rattle.std.proofs.Common.{sym, ap, arith, lit<, lit≤}
+use Rattle.std.proofs.Math.Decide.{dec_lt}
 use Rattle.algebra.specs.Semiring.{Laws}
 use Rattle.algebra.specs.Codes.{Coded}
-use Rattle.score.specs.Score.{most, capped, score_plus, score_times, scores, score_code, score_of, score_codes}
+use Rattle.algebra.proofs.BelowLaws.{below_path}
+use Rattle.score.specs.Score.{most, Points, capped, score_plus, score_times, scores, score_code, score_of, score_codes}
 
--- the ghost field has one proof at most
-same_points : (a b : Points) → a.points ≡ b.points → a ≡ b
-same_points a b e = λ i. record { points = e i; within = is_prop→PathP (λ j. e j ≤ most) (λ j. le_prop) a.within b.within i }
-
-pub same : {a b : Points} → a.points ≡ b.points → ◌≡◌ {A = Option Points} (Some a) (Some b)
-same {a} {b} e = ap Some (same_points a b e)
+pub same : {a b : Points} → a.number ≡ b.number → ◌≡◌ {A = Option Points} (Some a) (Some b)
+same e = ap Some (below_path e)
 
 plus_assoc : (x y z : Option Points) → score_plus (score_plus x y) z ≡ score_plus x (score_plus y z)
 plus_assoc None y z = refl
@@ -77,9 +71,9 @@ score_laws = record {
   times_zero = times_zero;
 }
 
-pub score_of_within : (a : Points) (d : Dec (a.points ≤ most)) → score_of a.points d ≡ Ok (Some a)
-score_of_within a (yes h) = ap Ok (same refl)
-score_of_within a (no f) = absurd (f a.within)
+pub score_of_number : (a : Points) (c : ℕ) (d : Dec (c < most + 1)) → a.number ≡ c → score_of c d ≡ Ok (Some a)
+score_of_number a c (yes h) e = ap Ok (same (sym e))
+score_of_number a c (no f) e = absurd (f (omega (arith, a.within)))
 
 none_but_zero : (v : Option Points) → score_code v ≡ None → v ≡ None
 none_but_zero None e = refl
@@ -87,16 +81,14 @@ none_but_zero (Some a) e = let z : ◌≡◌ {A = ℕ} 0 1 = cc in absurd (omega
 
 code_fits : (v : Option Points) (c : ℕ) → score_code v ≡ Some c → c < 4294967296
 code_fits None c e = let z : ◌≡◌ {A = ℕ} 0 1 = cc in absurd (omega arith)
-code_fits (Some a) c e = let z : a.points ≡ c = cc in omega (arith, z, a.within)
+code_fits (Some a) c e = let z : a.number ≡ c = cc in omega (arith, z, a.within)
 
-value_of_code : (v : Option Points) (c : ℕ) → score_code v ≡ Some c → score_of c (dec_le c most) ≡ Ok v
+value_of_code : (v : Option Points) (c : ℕ) → score_code v ≡ Some c → score_of c (dec_lt c (most + 1)) ≡ Ok v
 value_of_code None c e = let z : ◌≡◌ {A = ℕ} 0 1 = cc in absurd (omega arith)
-value_of_code (Some a) c e =
-    let z : a.points ≡ c = cc in
-    ap (λ n. score_of n (dec_le n most)) (sym z) ∙ score_of_within a (dec_le a.points most)
+value_of_code (Some a) c e = score_of_number a c (dec_lt c (most + 1)) cc
 
-code_of_value : (c : ℕ) (d : Dec (c ≤ most)) (v : Option Points) → score_of c d ≡ Ok v → score_code v ≡ Some c
-code_of_value c (yes h) v e = let z : Some (record { points = c; within = h }) ≡ v = cc in ap score_code (sym z)
+code_of_value : (c : ℕ) (d : Dec (c < most + 1)) (v : Option Points) → score_of c d ≡ Ok v → score_code v ≡ Some c
+code_of_value c (yes h) v e = let z : Some (record { number = c; within = h }) ≡ v = cc in ap score_code (sym z)
 code_of_value c (no f) v e = let z : ◌≡◌ {A = ℕ} 0 1 = cc in absurd (omega arith)
 
 pub score_coded : Coded None score_codes
@@ -108,5 +100,5 @@ score_coded = record {
   none_but_zero = none_but_zero;
   code_fits = code_fits;
   value_of_code = value_of_code;
-  code_of_value = λ c v. code_of_value c (dec_le c most) v;
+  code_of_value = λ c v. code_of_value c (dec_lt c (most + 1)) v;
 }

@@ -1,17 +1,20 @@
 // Score: none, or points up to a cap. The sum is the better of two, the product adds.
 #![tactic(auto)]
 
+ghost use Rattle.std.specs.Prelude.{refl};
 ghost use Rattle.score.specs.Score.{scores, score_codes};
 ghost use Rattle.score.specs.Scores.{score_laws, score_coded};
 
-pub mod points;
-
-use crate::points::Points;
+use algebra::below::Below;
 use algebra::interface::{Algebra, NoValue, Semiring};
 
-pub struct Score;
-
 const MOST: u32 = 1_000_000_000;
+
+const BEYOND: u32 = MOST + 1;
+
+pub type Points = Below<BEYOND>;
+
+pub struct Score;
 
 impl Semiring for Score {
     type Value = Option<Points>;
@@ -25,24 +28,19 @@ impl Semiring for Score {
     }
 
     fn one() -> Option<Points> {
-        Some(Points { points: 0 })
+        Some(Below { number: 0 })
     }
 
+    // none is the least
     fn plus(a: Option<Points>, b: Option<Points>) -> Option<Points> {
-        let Some(x) = a else {
-            return b;
-        };
-        let Some(y) = b else {
-            return a;
-        };
-        if x.points < y.points { b } else { a }
+        a.max(b)
     }
 
     fn times(a: Option<Points>, b: Option<Points>) -> Option<Points> {
         let x = a?;
         let y = b?;
-        Some(Points {
-            points: (x.points + y.points).min(MOST),
+        Some(Below {
+            number: (x.number + y.number).min(MOST),
         })
     }
 }
@@ -52,30 +50,21 @@ impl Algebra for Score {
 
     const WIDTH: usize = 4;
 
+    ghost NUMBER = { score_codes.number };
+
+    ghost WIDTH = { score_codes.width };
+
     ghost codes = { score_codes };
+
+    ghost published = { (refl, refl) };
 
     ghost coded = { score_coded };
 
-    fn algebra_number() -> u8 {
-        Self::NUMBER
-    }
-
-    fn code_width() -> usize {
-        Self::WIDTH
-    }
-
     fn code(value: Option<Points>) -> Option<u32> {
-        match value {
-            Some(x) => Some(x.points),
-            None => None,
-        }
+        value.map(|points| points.number)
     }
 
     fn value(code: u32) -> Result<Option<Points>, NoValue> {
-        if code <= MOST {
-            Ok(Some(Points { points: code }))
-        } else {
-            Err(NoValue)
-        }
+        Ok(Some(Below::try_from(code)?))
     }
 }

@@ -1,34 +1,27 @@
 -- The relations are a semiring, since they are the 3 by 3 tables of verdicts; and their codes are one to one.
-use Rattle.std.specs.Prelude.{◌≡◌, ℕ, ◌*◌, ◌/◌, ◌<◌, Bool, true, false, [], ◌∷◌, Ok, ◌≢◌, bit_and, bit_or, refl}
+use Rattle.std.specs.Prelude.{◌≡◌, ℕ, ◌*◌, ◌/◌, Bool, true, false, [], ◌∷◌, bit_and, bit_or, refl}
 use Rattle.std.proofs.Common.{sym, ap, ap₂, ◌∙◌, arith, lit<, lit≤}
-use mathlib.Core.HLevel.{is_prop→PathP}
-use Rattle.std.proofs.Math.Bridge.{le_prop}
 use Rattle.std.proofs.lemmas.Nat.{shr-shr, and_comm}
-use Rattle.turn.specs.declared.relation.Relation.{Relation}
 use Rattle.algebra.specs.Semiring.{Laws}
 use Rattle.algebra.specs.Codes.{Coded}
 use Rattle.algebra.specs.Bits.{bits, number}
 use Rattle.algebra.specs.Tables.{Table, filled}
 use Rattle.verdict.specs.Verdicts.{verdict_laws}
 use Rattle.verdict.specs.Verdict.{and}
-use Rattle.turn.specs.Turn.{crossed, turns, turn_codes}
+use Rattle.turn.specs.Turn.{Relation, crossed, turns, turn_codes}
+use Rattle.algebra.proofs.BelowLaws.{below_path, below_coded}
 use Rattle.algebra.proofs.BitLists.{bits-number, number-bits}
 use Rattle.turn.specs.BitLists.{ors, or_number, and_bits}
 use Rattle.algebra.proofs.Embedding.{embedded}
-use Rattle.algebra.proofs.OwnCodes.{own_coded, own_value_at}
 use Rattle.algebra.proofs.TableLaws.{table_path, table_laws}
-
--- the ghost field has one proof at most
-pub same : {x y : Relation} → x.bits ≡ y.bits → x ≡ y
-same {x} {y} e = λ i. record { bits = e i; nine = is_prop→PathP (λ j. e j < 512) (λ j. le_prop) x.nine y.nine i }
 
 -- row i and column j say whether (i, j) is in the set
 table : Relation → Table Bool 3
-table x = record { entries = bits 9 x.bits; sized = refl }
+table x = record { entries = bits 9 x.number; sized = refl }
 
 table_embeds : (x y : Relation) → table x ≡ table y → x ≡ y
 unfolding table
-table_embeds x y e = same (sym (number-bits 9 x.bits x.nine) ∙ ap (λ t. number t.entries) e ∙ number-bits 9 y.bits y.nine)
+table_embeds x y e = below_path (sym (number-bits 9 x.number x.within) ∙ ap (λ t. number t.entries) e ∙ number-bits 9 y.number y.within)
 
 pub turn_laws : Laws turns
 unfolding table filled
@@ -40,14 +33,7 @@ turn_laws = embedded table table_embeds (record {
 }) (table_laws verdict_laws 3)
 
 pub turn_coded : Coded turns.zero turn_codes
-turn_coded =
-    own_coded (λ x. x.bits) 512 (λ c below. record { bits = c; nine = below }) (λ x y. same) (λ c below. refl)
-    turns.zero 4 2 (λ x. x.nine) refl (lit< tt) (lit≤ tt) (lit≤ tt) (lit≤ tt)
-
-pub turn_value_at : (x : Relation) → (x.bits ≢ 0) → turn_codes.value x.bits ≡ Ok x
-turn_value_at x some =
-    own_value_at (λ y. y.bits) 512 (λ c below. record { bits = c; nine = below }) (λ y z. same) (λ c below. refl)
-    x x.bits _ refl some x.nine
+turn_coded = below_coded turns.zero 4 2 refl (lit< tt) (lit≤ tt) (lit≤ tt) (lit≤ tt)
 
 -- a row of three bits, at each place of a column of three bits
 spread : (p q r a b c : Bool) → number (p ∷ false ∷ false ∷ q ∷ false ∷ false ∷ r ∷ []) * number (a ∷ b ∷ c ∷ [])
@@ -68,10 +54,10 @@ crossing column row =
     (and_comm row 7 ∙ and_bits (true ∷ true ∷ true ∷ []) row)
     ∙ spread _ _ _ _ _ _
 
-pub union : (x y : Relation) → bit_or x.bits y.bits ≡ (turns.plus x y).bits
+pub union : (x y : Relation) → bit_or x.number y.number ≡ (turns.plus x y).number
 union x y =
-    ap₂ bit_or (sym (number-bits 9 x.bits x.nine)) (sym (number-bits 9 y.bits y.nine))
-    ∙ or_number (bits 9 x.bits) (bits 9 y.bits)
+    ap₂ bit_or (sym (number-bits 9 x.number x.within)) (sym (number-bits 9 y.number y.within))
+    ∙ or_number (bits 9 x.number) (bits 9 y.number)
 
 fourth : (n : ℕ) → n / 4 ≡ n / 2 / 2
 fourth n = sym (shr-shr n 1 1)
@@ -81,13 +67,13 @@ eighth n = sym (shr-shr n 2 1) ∙ ap (λ m. m / 2) (fourth n)
 
 -- the pairs by way of 0, of 1 and of 2
 pub composition : (x y : Relation) (r s t : ℕ)
-    → r ≡ number (crossed (bits 7 x.bits) (bits 3 y.bits))
-    → s ≡ number (crossed (bits 7 (x.bits / 2)) (bits 3 (y.bits / 8)))
-    → t ≡ number (crossed (bits 7 (x.bits / 4)) (bits 3 (y.bits / 64)))
-    → bit_or (bit_or r s) t ≡ (turns.times x y).bits
+    → r ≡ number (crossed (bits 7 x.number) (bits 3 y.number))
+    → s ≡ number (crossed (bits 7 (x.number / 2)) (bits 3 (y.number / 8)))
+    → t ≡ number (crossed (bits 7 (x.number / 4)) (bits 3 (y.number / 64)))
+    → bit_or (bit_or r s) t ≡ (turns.times x y).number
 composition x y r s t by_0 by_1 by_2 =
-    let a = x.bits in
-    let b = y.bits in
+    let a = x.number in
+    let b = y.number in
     let c₀ = crossed (bits 7 a) (bits 3 b) in
     let c₁ = crossed (bits 7 (a / 2)) (bits 3 (b / 2 / 2 / 2)) in
     let c₂ = crossed (bits 7 (a / 2 / 2)) (bits 3 (b / 2 / 2 / 2 / 2 / 2 / 2)) in

@@ -1,5 +1,5 @@
 -- Verdict: no and yes. The sum is `or`, the product `and`; yes alone has a code, 1.
-use Rattle.std.specs.Prelude.{ℕ, Bool, true, false, cond, Some, None, Ok, Err, Option, Result, ◌==◌}
+use Rattle.std.specs.Prelude.{ℕ, Bool, true, false, if◌then◌else◌, Some, None, Ok, Err, Option, Result, ◌==◌}
 use Rattle.algebra.specs.declared.interface.NoValue.{NoValue}
 use Rattle.algebra.specs.Semiring.{Ops}
 use Rattle.algebra.specs.Codes.{Codes, no_value}
@@ -20,7 +20,7 @@ verdict_code false = None
 verdict_code true = Some 1
 
 abbrev pub verdict_value : ℕ → Result Bool NoValue
-verdict_value c = cond (c == 1) (Ok true) (Err no_value)
+verdict_value c = if c == 1 then Ok true else Err no_value
 
 abbrev pub verdict_codes : Codes Bool
 verdict_codes = record { number = 1; width = 1; code = verdict_code; value = verdict_value }

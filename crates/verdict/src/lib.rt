@@ -1,6 +1,7 @@
 // Verdict: no or yes.
 #![tactic(auto)]
 
+ghost use Rattle.std.specs.Prelude.{refl};
 ghost use Rattle.verdict.specs.Verdict.{verdicts, verdict_codes};
 ghost use Rattle.verdict.specs.Verdicts.{verdict_laws};
 ghost use Rattle.std.proofs.Common.{rules};
@@ -38,23 +39,24 @@ impl Algebra for Verdict {
 
     const WIDTH: usize = 1;
 
+    ghost NUMBER = { verdict_codes.number };
+
+    ghost WIDTH = { verdict_codes.width };
+
     ghost codes = { verdict_codes };
+
+    ghost published = { (refl, refl) };
 
     ghost coded = { Prim.search rules };
 
-    fn algebra_number() -> u8 {
-        Self::NUMBER
-    }
-
-    fn code_width() -> usize {
-        Self::WIDTH
-    }
-
     fn code(value: bool) -> Option<u32> {
-        if value { Some(1) } else { None }
+        value.then_some(1)
     }
 
     fn value(code: u32) -> Result<bool, NoValue> {
-        if code == 1 { Ok(true) } else { Err(NoValue) }
+        match code {
+            1 => Ok(true),
+            _ => Err(NoValue),
+        }
     }
 }

@@ -1,6 +1,0 @@
-use Rattle.std.proofs.Common.{refl}
-use Rattle.turn.specs.Turns.{same}
-use Rattle.turn.proofs.TurnSemiring.one.Goals as goal
-
-pub returns : goal.returns
-returns c = same refl

@@ -1,9 +1,0 @@
-// Relations on the three directions.
-ghost use Rattle.std.specs.Prelude.{◌<◌};
-
-// A set of pairs (i, j) of the directions 0, 1 and 2: bit 3 i + j says that the pair is in it.
-#[derive(Clone, Copy)]
-pub struct Relation {
-    pub bits: u16,
-    ghost nine: { bits < 512 },
-}
