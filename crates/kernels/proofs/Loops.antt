@@ -1,7 +1,7 @@
 -- What a loop has summed or written so far, and what it has in the end.
-use Rattle.std.proofs.Common.{◌≡◌, ℕ, ◌+◌, ◌-◌, ◌*◌, ◌<◌, ◌≤◌, List, ◌++◌, length, get_or, take, drop, sym, refl, ap, ◌∙◌, ap₂, mul-le-mul_right, suc-mul, arith, length-take-le, length-drop, get_or-drop, get_or-take, below_more}
-use borrow.Rule.Slice.PartMut.{put_mid, post_of}
-use Rattle.std.proofs.lemmas.List.{get_or_append_left, get_or-append_right}
+use Rattle.std.proofs.Common.{◌≡◌, ℕ, ◌+◌, ◌-◌, ◌*◌, ◌<◌, ◌≤◌, List, length, take, drop, sym, refl, ap, ◌∙◌, ap₂, mul-le-mul_right, suc-mul, arith, rules, length-take-le, length-drop, get_or-drop, get_or-take, below_more}
+use borrow.Rule.Slice.PartMut.{put_mid}
+use Rattle.std.proofs.lemmas.List.{places}
 use Rattle.algebra.specs.Semiring.{Ops, Laws, sum_to}
 use Rattle.algebra.specs.Tables.{Table, cell, filled}
 use Rattle.algebra.proofs.Sums.{sum_below, times_sum}
@@ -24,17 +24,6 @@ row_of n p xs = take n (drop (p * n) xs)
 pub row_long : {V : Type 0} (n p : ℕ) (xs : List V) → p < n → length xs ≡ n * n → length (row_of n p xs) ≡ n
 row_long n p xs h long = length-take-le n (drop (p * n) xs) (simp length-drop (omega (arith, row_end n p h)))
 
--- a part of a list that is overwritten: what stands before it, and in it
-module _ {X : Type 0} (at k : ℕ) (xs ys : List X) (d : X) (fits : at ≤ length xs) where
-  pub put_before : (i : ℕ) → i < at → get_or (put_mid at k xs ys) i d ≡ get_or xs i d
-  put_before i h =
-      get_or_append_left (take at xs) _ d i (omega (arith, length-take-le at xs fits)) ∙ get_or-take at xs i d h
-
-  pub put_inside : (i : ℕ) → at ≤ i → i < at + length ys → get_or (put_mid at k xs ys) i d ≡ get_or ys (i - at) d
-  put_inside i h below =
-      get_or-append_right (take at xs) (ys ++ post_of at k xs) at i d (length-take-le at xs fits) h
-      ∙ get_or_append_left ys (post_of at k xs) d (i - at) (omega arith)
-
 module _ {V : Type 0} (O : Ops V) where
   -- one row more, of a table with f p q in row p and column q
   pub rows_more : (n p m : ℕ) (out row : List V) (f : ℕ → ℕ → V) → p < n → m ≡ n → length out ≡ n * n
@@ -45,9 +34,8 @@ module _ {V : Type 0} (O : Ops V) where
       let fits : p * n ≤ length out = omega (arith, row_end n p h) in
       let wide : length row ≡ n = rw whole at kept ∙ row_long n p out h long in
       below_more (λ i. (j : ℕ) → j < n → read O (put_mid (p * n) m out row) (i * n + j) ≡ f i j) p
-      (λ i l j w. put_before (p * n) m out row O.zero (omega arith) (i * n + j) (row_below n i p j l w) ∙ before i l j w)
-      (λ j w. let at : p * n + j - p * n ≡ j = omega arith in
-      put_inside (p * n) m out row O.zero (omega arith) (p * n + j) (omega arith) (omega arith) ∙ ap (read O row) at ∙ here j w)
+      (λ i l j w. let earlier = row_below n i p j l w in let e = before i l j w in search (rules, places))
+      (λ j w. let at : p * n + j - p * n ≡ j = omega arith in let e = here j w in search (rules, places))
 
   pub all_rows : (n : ℕ) (out : List V) (f : ℕ → ℕ → V) → length out ≡ n * n
       → ((i : ℕ) → i < n → (j : ℕ) → j < n → read O out (i * n + j) ≡ f i j) → out ≡ (filled O n f).entries

@@ -1,7 +1,7 @@
 -- Tables within a list, and what a write leaves of it.
-use Rattle.std.proofs.Common.{◌≡◌, ℕ, ◌+◌, ◌-◌, ◌*◌, ◌<◌, List, ◌++◌, length, drop, sym, ◌∙◌, ap, arith, get_or-drop, get_or-take}
+use Rattle.std.proofs.Common.{◌≡◌, ℕ, ◌+◌, ◌-◌, ◌*◌, ◌<◌, List, ◌++◌, length, drop, sym, ◌∙◌, ap, arith, rules, get_or-drop, get_or-take}
 use Rattle.std.specs.List.{slice_range}
-use Rattle.std.proofs.lemmas.List.{get_or_append_left, get_or-append_right}
+use Rattle.std.proofs.lemmas.List.{places}
 use Rattle.algebra.specs.Semiring.{Ops}
 use Rattle.algebra.specs.Tables.{Table, cell}
 use Rattle.algebra.proofs.TableLaws.{table_same, cell-filled}
@@ -22,21 +22,17 @@ module _ {V : Type 0} (O : Ops V) where
   -- the table in a stretch of a list
   pub table_of_stretch : (n x : ℕ) (xs w : List V) → xs ≡ slice_range w x (x + n * n) → table_of O n xs ≡ table_in O n w x
   table_of_stretch n x xs w stretch = table_same O _ _ (λ p q hp hq.
-      let k = p * n + q in
       let below = place n p q hp hq in
-      cell_of O n xs p q hp hq ∙ ap (λ ys. read O ys k) stretch
-      ∙ get_or-take (x + n * n - x) (drop x w) k O.zero (omega (arith, below)) ∙ get_or-drop x w k O.zero
-      ∙ sym (cell_in n w x p q hp hq))
+      let here = cell_of O n xs p q hp hq in
+      let there = cell_in n w x p q hp hq in
+      search (rules, places))
 
   -- the table whose entries stand between two parts
   pub table_between : (n x : ℕ) (before part behind : List V) (A : Table V n) → length before ≡ x → part ≡ A.entries
       → table_in O n (before ++ (part ++ behind)) x ≡ A
   table_between n x before part behind A long made = table_same O _ A (λ p q hp hq.
-      let k = p * n + q in
       let below = place n p q hp hq in
-      let inside : x + k - x ≡ k = omega arith in
-      cell_in n (before ++ (part ++ behind)) x p q hp hq
-      ∙ get_or-append_right before (part ++ behind) x (x + k) O.zero long (omega arith)
-      ∙ ap (read O (part ++ behind)) inside
-      ∙ get_or_append_left part behind O.zero k (omega (arith, below, ap length made, A.sized))
-      ∙ ap (λ ys. read O ys k) made)
+      let inside : x + (p * n + q) - x ≡ p * n + q = omega arith in
+      let long' = ap length made ∙ A.sized in
+      let there = cell_in n (before ++ (part ++ behind)) x p q hp hq in
+      search (rules, places))
