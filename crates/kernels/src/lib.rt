@@ -2,8 +2,7 @@
 #![tactic(auto)]
 
 ghost use Rattle.std.specs.Prelude.{◌≡◌, ℕ, ◌+◌, ◌*◌, ◌<◌, ◌≤◌, length, if◌then◌else◌, nat_eq};
-ghost use Rattle.kernels.specs.Entries.{SlicesHoldTables, read, identity_entries, sum_entries, product_entries, value_between, row_by_column};
-ghost use Rattle.kernels.specs.Sizes.{Long};
+ghost use Rattle.kernels.specs.Entries.{Long, SlicesHoldTables, read, identity_entries, sum_entries, product_entries, value_between, row_by_column};
 
 use algebra::interface::Semiring;
 
@@ -61,7 +60,7 @@ pub fn product<S: Semiring>(n: usize, x: &[S::Value], y: &[S::Value], out: &mut 
     requires room { Long (n * n) out.old }
     ensures { out.new ≡ product_entries S.ops n x.now y.now }
 {
-    // Rows by index: `chunks_mut` asks for n > 0, and what is written through it is not known afterwards.
+    // By index: `chunks_mut` asks for n > 0, and what is written through it is not known afterwards.
     for p in 0..n {
         let at = p * n;
         product_row::<S>(n, &x[at..at + n], y, &mut out[at..at + n]);
@@ -101,6 +100,7 @@ pub fn value<S: Semiring>(
     ensures { result ≡ value_between S.ops n start.now table.now finish.now }
 {
     let mut total = S::zero();
+    // By index, since `chunks_exact` asks for n > 0.
     for (p, first) in start.iter().enumerate() {
         let at = p * n;
         let rest = dot::<S>(&table[at..at + n], finish, 0, 1);

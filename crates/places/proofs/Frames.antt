@@ -1,5 +1,5 @@
 -- Tables within a list, and what a write leaves of it.
-use Rattle.std.proofs.Common.{◌≡◌, ℕ, ◌+◌, ◌-◌, ◌*◌, ◌<◌, List, ◌++◌, length, drop, sym, ◌∙◌, ap, arith, rules, get_or-drop, get_or-take}
+use Rattle.std.proofs.Common.{◌≡◌, ℕ, ◌+◌, ◌-◌, ◌*◌, ◌<◌, List, ◌++◌, length, sym, ◌∙◌, ap, arith, rules}
 use Rattle.std.specs.List.{slice_range}
 use Rattle.std.proofs.lemmas.List.{places}
 use Rattle.algebra.specs.Semiring.{Ops}

@@ -72,6 +72,7 @@ pub fn clear<S: Semiring>(n: usize, w: &mut [S::Value], out: usize)
     ensures made { table_in S.ops n w.new out ≡ table_zero S.ops n }
     ensures kept { Kept S.ops out (n * n) w.old w.new }
 {
+    // `fill` asks for a clone that cannot fail, which `Copy` does not promise.
     for entry in w[out..out + n * n].iter_mut() {
         *entry = S::zero();
     }

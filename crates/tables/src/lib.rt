@@ -2,9 +2,9 @@
 #![tactic(auto)]
 
 ghost use Rattle.std.specs.Prelude.{◌≡◌, ℕ, ◌*◌, length};
-ghost use Rattle.kernels.specs.Entries.{identity_entries, sum_entries, product_entries, value_between};
-ghost use Rattle.kernels.specs.Sizes.{Size, Long, Square};
+ghost use Rattle.kernels.specs.Entries.{Long, identity_entries, sum_entries, product_entries, value_between};
 ghost use Rattle.tables.specs.Answers.{Tested, Written, Answered};
+ghost use Rattle.tables.specs.Sizes.{Size, Square};
 
 use algebra::interface::Semiring;
 
