@@ -3,6 +3,10 @@ use Rattle.std.specs.Prelude.{◌≡◌, ℕ, ◌+◌, ◌*◌, List, length, sl
 use Rattle.algebra.specs.Semiring.{Ops, sum_to}
 use Rattle.algebra.specs.Tables.{Table, filled, table_one, table_plus, table_times, between}
 
+-- a list of so many entries
+abbrev pub Long : {V : Type 0} → ℕ → List V → Type 0
+Long n xs = length xs ≡ n
+
 module _ {V : Type 0} (O : Ops V) where
   -- entry i of a list, and zero beyond its end
   abbrev pub read : List V → ℕ → V

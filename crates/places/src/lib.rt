@@ -1,93 +1,88 @@
 // Tables of weights at places of one lent slice, for places that are known to fit.
 #![tactic(auto)]
 
-ghost use Rattle.std.specs.Prelude.{◌≡◌, ℕ, ◌+◌, ◌*◌, ◌<◌, length};
-ghost use Rattle.algebra.specs.Semiring.{sum_to};
+ghost use Rattle.std.specs.Prelude.{◌≡◌, ◌+◌, ◌*◌, ◌≤◌, ◌++◌, List, length, slice_range};
 ghost use Rattle.algebra.specs.Tables.{table_zero, table_one, table_plus, table_times};
-ghost use Rattle.kernels.specs.Entries.{read};
-ghost use Rattle.kernels.specs.Sizes.{Size};
 ghost use Rattle.places.specs.Places.{table_in, Kept, Fits, Apart};
 
 use algebra::interface::Semiring;
-use kernels::dot;
 
-// Writes the row at x times each column of the table at y.
-fn product_row<S: Semiring>(n: usize, w: &mut [S::Value], x: usize, y: usize, out: usize)
-    requires left { Fits x n w.old }
-    requires right { Fits y (n * n) w.old }
-    requires room { Fits out n w.old }
-    requires apart { Apart x n out n × Apart y (n * n) out n }
-    ensures row { (q : ℕ) → q < n → read S.Semiring.ops w.new (out + q) ≡ sum_to S.Semiring.ops n (λ r.
-        S.Semiring.ops.times (read S.Semiring.ops w.old (x + r)) (read S.Semiring.ops w.old (y + (r * n + q)))) }
-    ensures kept { Kept S.Semiring.ops out n w.old w.new }
+// The entries from x on, where `size` entries are lent out between the two parts.
+fn stretch<'a, V>(before: &'a [V], behind: &'a [V], size: usize, x: usize) -> &'a [V]
+    requires fits { x + size ≤ length before.now + size + length behind.now }
+    requires apart { Apart x size (length before.now) size }
+    ensures { (room : List V) → length room ≡ size
+        → result.now ≡ slice_range (before.now ++ (room ++ behind.now)) x (x + size) }
 {
-    for q in 0..n {
-        let all: &[S::Value] = w;
-        let entry = dot::<S>(&all[x..x + n], all, y + q, n);
-        w[out + q] = entry;
+    if x < before.len() {
+        &before[x..x + size]
+    } else {
+        let at = x - before.len() - size;
+        &behind[at..at + size]
     }
 }
 
 // Writes the product of the tables at x and at y.
+#[tactic(auto, using(std::proofs::lemmas::List::places))]
 pub fn product<S: Semiring>(n: usize, w: &mut [S::Value], x: usize, y: usize, out: usize)
     requires left { Fits x (n * n) w.old }
     requires right { Fits y (n * n) w.old }
     requires room { Fits out (n * n) w.old }
     requires apart { Apart x (n * n) out (n * n) × Apart y (n * n) out (n * n) }
-    ensures made { table_in S.Semiring.ops n w.new out
-        ≡ table_times S.Semiring.ops (table_in S.Semiring.ops n w.old x) (table_in S.Semiring.ops n w.old y) }
-    ensures kept { Kept S.Semiring.ops out (n * n) w.old w.new }
+    ensures made { table_in S.ops n w.new out
+        ≡ table_times S.ops (table_in S.ops n w.old x) (table_in S.ops n w.old y) }
+    ensures kept { Kept S.ops out (n * n) w.old w.new }
 {
-    for p in 0..n {
-        let at = p * n;
-        product_row::<S>(n, w, x + at, y, out + at);
-    }
+    let size = n * n;
+    let (before, rest) = w.split_at_mut(out);
+    let (room, behind) = rest.split_at_mut(size);
+    let left = stretch(before, behind, size, x);
+    let right = stretch(before, behind, size, y);
+    kernels::product::<S>(n, left, right, room);
 }
 
 // Adds the table at x to the one at out.
+#[tactic(auto, using(std::proofs::lemmas::List::places))]
 pub fn add<S: Semiring>(n: usize, w: &mut [S::Value], x: usize, out: usize)
     requires table { Fits x (n * n) w.old }
     requires room { Fits out (n * n) w.old }
     requires apart { Apart x (n * n) out (n * n) }
-    ensures made { table_in S.Semiring.ops n w.new out
-        ≡ table_plus S.Semiring.ops (table_in S.Semiring.ops n w.old out) (table_in S.Semiring.ops n w.old x) }
-    ensures kept { Kept S.Semiring.ops out (n * n) w.old w.new }
+    ensures made { table_in S.ops n w.new out
+        ≡ table_plus S.ops (table_in S.ops n w.old out) (table_in S.ops n w.old x) }
+    ensures kept { Kept S.ops out (n * n) w.old w.new }
 {
-    for i in 0..n * n {
-        w[out + i] = S::plus(w[out + i], w[x + i]);
-    }
+    let (before, rest) = w.split_at_mut(out);
+    let (room, behind) = rest.split_at_mut(n * n);
+    kernels::add::<S>(n, stretch(before, behind, n * n, x), room);
 }
 
 // Writes the table at x once more.
 pub fn copy<S: Semiring>(n: usize, w: &mut [S::Value], x: usize, out: usize)
     requires table { Fits x (n * n) w.old }
     requires room { Fits out (n * n) w.old }
-    requires apart { Apart x (n * n) out (n * n) }
-    ensures made { table_in S.Semiring.ops n w.new out ≡ table_in S.Semiring.ops n w.old x }
-    ensures kept { Kept S.Semiring.ops out (n * n) w.old w.new }
+    ensures made { table_in S.ops n w.new out ≡ table_in S.ops n w.old x }
+    ensures kept { Kept S.ops out (n * n) w.old w.new }
 {
-    for i in 0..n * n {
-        w[out + i] = w[x + i];
-    }
+    w.copy_within(x..x + n * n, out);
 }
 
 // Writes the table of zeros.
 pub fn clear<S: Semiring>(n: usize, w: &mut [S::Value], out: usize)
     requires room { Fits out (n * n) w.old }
-    ensures made { table_in S.Semiring.ops n w.new out ≡ table_zero S.Semiring.ops n }
-    ensures kept { Kept S.Semiring.ops out (n * n) w.old w.new }
+    ensures made { table_in S.ops n w.new out ≡ table_zero S.ops n }
+    ensures kept { Kept S.ops out (n * n) w.old w.new }
 {
-    for i in 0..n * n {
-        w[out + i] = S::zero();
+    // `fill` asks for a clone that cannot fail, which `Copy` does not promise.
+    for entry in w[out..out + n * n].iter_mut() {
+        *entry = S::zero();
     }
 }
 
 // Writes the identity.
 pub fn identity<S: Semiring>(n: usize, w: &mut [S::Value], out: usize)
-    requires size { Size n }
     requires room { Fits out (n * n) w.old }
-    ensures made { table_in S.Semiring.ops n w.new out ≡ table_one S.Semiring.ops n }
-    ensures kept { Kept S.Semiring.ops out (n * n) w.old w.new }
+    ensures made { table_in S.ops n w.new out ≡ table_one S.ops n }
+    ensures kept { Kept S.ops out (n * n) w.old w.new }
 {
     kernels::identity::<S>(n, &mut w[out..out + n * n]);
 }

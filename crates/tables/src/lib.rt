@@ -2,9 +2,9 @@
 #![tactic(auto)]
 
 ghost use Rattle.std.specs.Prelude.{◌≡◌, ℕ, ◌*◌, length};
-ghost use Rattle.kernels.specs.Entries.{identity_entries, sum_entries, product_entries, value_between};
-ghost use Rattle.kernels.specs.Sizes.{Size, Long, Square};
+ghost use Rattle.kernels.specs.Entries.{Long, identity_entries, sum_entries, product_entries, value_between};
 ghost use Rattle.tables.specs.Answers.{Tested, Written, Answered};
+ghost use Rattle.tables.specs.Sizes.{Size, Square};
 
 use algebra::interface::Semiring;
 
@@ -30,7 +30,7 @@ pub fn sum<S: Semiring>(
     out: &mut [S::Value],
 ) -> Result<(), Misfit>
     ensures { Written (Square n x.now × Square n y.now × Square n out.old)
-        (sum_entries S.Semiring.ops n x.now y.now) out.old result out.new }
+        (sum_entries S.ops n x.now y.now) out.old result out.new }
 {
     test_table(n, x.len())?;
     test_table(n, y.len())?;
@@ -47,7 +47,7 @@ pub fn product<S: Semiring>(
     out: &mut [S::Value],
 ) -> Result<(), Misfit>
     ensures { Written (Square n x.now × Square n y.now × Square n out.old)
-        (product_entries S.Semiring.ops n x.now y.now) out.old result out.new }
+        (product_entries S.ops n x.now y.now) out.old result out.new }
 {
     test_table(n, x.len())?;
     test_table(n, y.len())?;
@@ -58,7 +58,7 @@ pub fn product<S: Semiring>(
 
 // Writes the table with one on the diagonal and zero elsewhere.
 pub fn identity<S: Semiring>(n: usize, out: &mut [S::Value]) -> Result<(), Misfit>
-    ensures { Written (Square n out.old) (identity_entries S.Semiring.ops n) out.old result out.new }
+    ensures { Written (Square n out.old) (identity_entries S.ops n) out.old result out.new }
 {
     test_table(n, out.len())?;
     kernels::identity::<S>(n, out);
@@ -73,7 +73,7 @@ pub fn value<S: Semiring>(
     finish: &[S::Value],
 ) -> Result<S::Value, Misfit>
     ensures { Answered (Long n start.now × Square n table.now × Long n finish.now)
-        (value_between S.Semiring.ops n start.now table.now finish.now) result }
+        (value_between S.ops n start.now table.now finish.now) result }
 {
     test_table(n, table.len())?;
     if start.len() != n || finish.len() != n {

@@ -1,6 +1,10 @@
 use Rattle.std.proofs.Common.{◌≡◌}
-use Rattle.kernels.proofs.Loops.{value_below}
+use Rattle.algebra.specs.Semiring.{sum_to}
+use Rattle.kernels.specs.Entries.{read, row_by_column}
+use Rattle.kernels.proofs.Loops.{row_of}
 use Rattle.kernels.proofs.value.Given as goal
 
 abbrev pub invariant-loop-p : goal.invariant-loop-p
-invariant-loop-p g l = l.total ≡ value_below g.met.S.Semiring.lawful l.n l.p l.start l.table l.finish
+invariant-loop-p g l =
+    let O = g.S.Semiring.ops in
+    l.total ≡ sum_to O l.p (λ p. O.times (read O l.start p) (row_by_column O (row_of l.n p l.table) l.finish 0 1 l.n))

@@ -1,19 +1,17 @@
-use Rattle.std.proofs.Common.{arith}
-use Rattle.kernels.proofs.Loops.{place}
-use Rattle.places.proofs.Frames.{table_made, kept_wider}
-use Rattle.places.proofs.Writes.{one_more}
+use Rattle.std.proofs.Common.{◌+◌, ◌*◌, take, arith, length-take-le}
+use Rattle.std.proofs.lemmas.List.Edits.{length-between}
+use Rattle.algebra.specs.Tables.{table_zero}
+use Rattle.kernels.proofs.Loops.{all_rows, place}
+use Rattle.places.proofs.Frames.{table_between}
 use Rattle.places.proofs.clear.Goals as goal
 
-pub loop-i-preserved : goal.loop-i-preserved
-loop-i-preserved g c =
-    let O = g.S.Semiring.ops in
-    one_more O c.args.out c.loop-i.i _ c.args.w.now c.loop-i.w _ (omega arith) c.loop-i.invariant c.zero.ensures
-
-pub returns : goal.returns
-returns g c =
+pub returns-clause-made : goal.returns-clause-made
+returns-clause-made g c =
     let O = g.S.Semiring.ops in
     let n = c.args.n in
-    record {
-      made = table_made O n c.loop-i.w c.args.out _ (λ p q hp hq. c.loop-i.invariant.so_far _ (omega (arith, place n p q hp hq)));
-      kept = kept_wider O _ _ _ _ c.args.w.now c.loop-i.w (omega arith) (omega arith) c.loop-i.invariant.kept;
-    }
+    let w = c.args.w.now in
+    let out = c.args.out in
+    let room = length-between w out (out + n * n) (omega arith) in
+    table_between O n out (take out w) c.loop-entry.entry-items _ (table_zero O n) (length-take-le out w (omega arith))
+    (all_rows O n c.loop-entry.entry-items (λ p q. O.zero) (omega arith)
+    (λ p hp q hq. c.loop-entry.invariant _ (omega (arith, place n p q hp hq))))

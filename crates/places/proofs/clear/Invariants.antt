@@ -1,5 +1,7 @@
-use Rattle.places.proofs.Writes.{Written}
+use Rattle.std.proofs.Common.{◌≡◌, ℕ, ◌<◌}
+use Rattle.kernels.specs.Entries.{read}
 use Rattle.places.proofs.clear.Given as goal
 
-abbrev pub invariant-loop-i : goal.invariant-loop-i
-invariant-loop-i g l = let O = g.S.Semiring.ops in Written O l.out l.i (λ k. O.zero) l.initial.w l.w
+abbrev pub invariant-loop-entry : goal.invariant-loop-entry
+invariant-loop-entry g l =
+    let O = g.S.Semiring.ops in (k : ℕ) → k < l.entry-index → read O l.entry-items k ≡ O.zero

@@ -1,14 +1,11 @@
-use Rattle.std.proofs.Common.{length, ap, ◌∙◌, arith}
+use Rattle.std.proofs.Common.{take, arith, length-take-le}
 use Rattle.algebra.specs.Tables.{table_one}
-use Rattle.places.proofs.Frames.{put_made, put_kept}
+use Rattle.places.proofs.Frames.{table_between}
 use Rattle.places.proofs.identity.Goals as goal
 
-pub returns : goal.returns
-returns g c =
+pub returns-clause-made : goal.returns-clause-made
+returns-clause-made g c =
     let O = g.S.Semiring.ops in
     let n = c.args.n in
     let w = c.args.w.now in
-    record {
-      made = put_made O n c.args.out _ w _ (table_one O n) c.identity.ensures c.requires.room;
-      kept = put_kept O c.args.out _ _ w _ (omega arith) (ap length c.identity.ensures ∙ (table_one O n).sized) c.requires.room;
-    }
+    table_between O n c.args.out (take c.args.out w) _ _ (table_one O n) (length-take-le c.args.out w (omega arith)) c.identity.ensures

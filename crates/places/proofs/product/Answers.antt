@@ -1,41 +1,15 @@
-use Rattle.std.proofs.Common.{◌≡◌, ◌*◌, ap, arith}
-use Rattle.kernels.proofs.Loops.{row_end}
-use Rattle.places.proofs.Frames.{parts_apart, kept_wider}
-use Rattle.places.proofs.Writes.{one_row_more, product_made}
+use Rattle.std.proofs.Common.{ap₂, ◌∙◌}
+use Rattle.algebra.specs.Tables.{table_times}
+use Rattle.places.proofs.Frames.{table_of_stretch, table_between}
 use Rattle.places.proofs.product.Goals as goal
 
-pub overflow_add-x : goal.overflow_add-x
-overflow_add-x g c = let e = row_end c.args.n c.loop-p.p c.loop-p-test.true in omega (arith, e)
-
-pub overflow_add-out : goal.overflow_add-out
-overflow_add-out g c = let e = row_end c.args.n c.loop-p.p c.loop-p-test.true in omega (arith, e)
-
-pub product_row-requires : goal.product_row-requires
-product_row-requires g c =
-    let n = c.args.n in
-    let p = c.loop-p.p in
-    let e = row_end n p c.loop-p-test.true in
-    record {
-      left = omega (arith, e);
-      right = omega arith;
-      room = omega (arith, e);
-      apart = (
-        parts_apart c.args.x (n * n) c.args.out (n * n) _ n _ n c.requires.apart.0 (omega arith) (omega (arith, e)) (omega arith) (omega (arith, e)),
-        parts_apart c.args.y (n * n) c.args.out (n * n) _ (n * n) _ n c.requires.apart.1 (omega arith) (omega arith) (omega arith) (omega (arith, e)),
-      );
-    }
-
-pub loop-p-preserved : goal.loop-p-preserved
-loop-p-preserved g c =
-    one_row_more g.met.S.Semiring.lawful c.args.n c.loop-p.p c.args.x c.args.y c.args.out c.args.w.now c.loop-p.w _
-    c.loop-p-test.true c.requires.apart.0 c.requires.apart.1 c.loop-p.invariant c.product_row.ensures.row c.product_row.ensures.kept
-
-pub returns : goal.returns
-returns g c =
+pub returns-clause-made : goal.returns-clause-made
+returns-clause-made g c =
     let O = g.S.Semiring.ops in
-    let all : c.loop-p.p ≡ c.args.n = omega arith in
-    let square : c.loop-p.p * c.args.n ≡ c.args.n * c.args.n = ap (λ k. k * c.args.n) all in
-    record {
-      made = product_made g.met.S.Semiring.lawful c.args.n c.loop-p.p c.args.x c.args.y c.args.out c.args.w.now c.loop-p.w all c.loop-p.invariant;
-      kept = kept_wider O _ _ _ _ c.args.w.now c.loop-p.w (omega arith) (omega (arith, square)) c.loop-p.invariant.kept;
-    }
+    let n = c.args.n in
+    let w = c.args.w.now in
+    let long = c.split_at_mut-room.ensures.front_len in
+    let x_is = c.stretch-left.ensures c.split_at_mut-room.result.0.now long in
+    let y_is = c.stretch-right.ensures c.split_at_mut-room.result.0.now long in
+    table_between O n c.args.out _ _ _ _ c.split_at_mut-before.ensures.front_len c.product.ensures
+    ∙ ap₂ (table_times O) (table_of_stretch O n c.args.x _ w cc) (table_of_stretch O n c.args.y _ w cc)

@@ -1,14 +1,11 @@
 -- The sizes of tables.
-use Rattle.std.specs.Prelude.{◌≡◌, ℕ, ◌*◌, ◌≤◌, List, length}
+use Rattle.std.specs.Prelude.{ℕ, ◌*◌, ◌≤◌, List}
+use Rattle.kernels.specs.Entries.{Long}
 
 -- tables have one to four rows
 pub record Size (n : ℕ) : Type 0 where
   pub some : 1 ≤ n
   pub few : n ≤ 4
-
--- a list of so many entries
-abbrev pub Long : {V : Type 0} → ℕ → List V → Type 0
-Long n xs = length xs ≡ n
 
 -- the entries of an n by n table
 abbrev pub Square : {V : Type 0} → ℕ → List V → Type 0

@@ -1,9 +1,0 @@
-use Rattle.std.proofs.Common.{◌+◌}
-use Rattle.kernels.specs.Entries.{read}
-use Rattle.places.proofs.Writes.{Written}
-use Rattle.places.proofs.add.Given as goal
-
-abbrev pub invariant-loop-i : goal.invariant-loop-i
-invariant-loop-i g l =
-    let O = g.S.Semiring.ops in
-    Written O l.out l.i (λ k. O.plus (read O l.initial.w (l.out + k)) (read O l.initial.w (l.x + k))) l.initial.w l.w
