@@ -49,10 +49,10 @@ pub const FINISH: [Option<u32>; 2] = [Some(1), Some(2)];
 // State 0 is outside a word and state 1 inside one; a digit may be read either way.
 pub fn build<A: Algebra>() -> Result<Sheet<A::Value>, NoValue> {
     Ok(Sheet {
-        start: weights::<A, 2>(&START)?,
-        finish: weights::<A, 2>(&FINISH)?,
-        space: weights::<A, 4>(&[Some(1), None, Some(2), None])?,
-        digit: weights::<A, 4>(&[Some(1), Some(2), None, Some(3)])?,
-        other: weights::<A, 4>(&[None, Some(2), None, Some(1)])?,
+        start: weights::<A, _>(&START)?,
+        finish: weights::<A, _>(&FINISH)?,
+        space: weights::<A, _>(&[Some(1), None, Some(2), None])?,
+        digit: weights::<A, _>(&[Some(1), Some(2), None, Some(3)])?,
+        other: weights::<A, _>(&[None, Some(2), None, Some(1)])?,
     })
 }

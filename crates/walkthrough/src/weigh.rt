@@ -27,8 +27,8 @@ pub fn weigh<A: Algebra>(
     let mut running = [A::zero(); 4];
     tables::identity::<A>(2, &mut running).unwrap();
     println!(rt; "identity:{}", Line(&codes::<A>(&running)))?;
-    for (place, byte) in text.iter().enumerate() {
-        let class = Class::from(*byte);
+    for (place, &byte) in text.iter().enumerate() {
+        let class = Class::from(byte);
         let table = sheet.table(class);
         running = product::<A>(&running, table);
         println!(rt; "place {place} class {}", class as u8)?;
