@@ -3,7 +3,7 @@ ghost use Rattle.std.specs.Prelude.{◌≡◌};
 ghost use Rattle.nested.specs.Classes.{class_of};
 
 // The class of a byte outside tags.
-#[derive(Clone, Copy, Debug, PartialEq, Eq, Hash)]
+#[derive(Clone, Copy, Debug, PartialEq, Eq)]
 pub enum Class {
     Space,
     Digit,
@@ -23,7 +23,7 @@ impl From<u8> for Class {
 }
 
 // A byte of text, by its class; or a tag, by its number on the sheet. A mark stands alone.
-#[derive(Clone, Copy, Debug, PartialEq, Eq, Hash)]
+#[derive(Clone, Copy, Debug, PartialEq, Eq)]
 pub enum Token {
     Text(Class),
     Mark(u8),
