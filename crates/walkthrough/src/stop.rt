@@ -7,6 +7,6 @@ use thiserror::Error;
 pub enum Stop {
     #[error("a code of the sheet has no value")]
     Code(#[from] NoValue),
-    #[error("{0}")]
+    #[error(transparent)]
     Output(#[from] io::Error),
 }
