@@ -14,9 +14,9 @@ use Rattle.walkthrough.specs.Weight.{class_entries, byte_table, text_table}
 
 module _ {V : Type 0} {O : Ops V} (S : Laws O) (sheet : Sheet V) where
   -- one byte more
-  pub text_table-more : (text : List ℕ) (i : ℕ) → i < length text
+  text_more : (text : List ℕ) (i : ℕ) → i < length text
       → text_table O sheet (take (i + 1) text) ≡ table_times O (text_table O sheet (take i text)) (byte_table O sheet (get_or text i 0))
-  text_table-more text i within =
+  text_more text i within =
       let L = table_laws S 2 in
       ap (product (table_ops O 2)) (map_more (byte_table O sheet) text i 0 within)
       ∙ product-append L _ _
@@ -29,5 +29,5 @@ module _ {V : Type 0} {O : Ops V} (S : Laws O) (sheet : Sheet V) where
       → next ≡ (text_table O sheet (take (i + 1) text)).entries
   entries_more text i class running table next within read chosen before made =
       let held = of_entries O (text_table O sheet (take i text)) in
-      let more = text_table-more text i within in
+      let more = text_more text i within in
       cc
