@@ -3,7 +3,6 @@
 
 mod sheet;
 mod show;
-mod stop;
 mod weigh;
 
 use algebra::interface::Algebra;
@@ -12,7 +11,6 @@ use score::Score;
 use sheet::{FINISH, START, Sheet, build};
 use show::Line;
 use std::io;
-use stop::Stop;
 use weigh::weigh;
 
 const TEXT: &str = "ab 7";
@@ -25,7 +23,7 @@ fn report<A: Algebra>(rt: &impl Print, name: &str, sheet: &Sheet<A::Value>) -> i
     println!(rt; "weight:{}", Line(&[A::code(weight)]))
 }
 
-fn main(rt: HostRuntime) -> Result<(), Stop> {
+fn main(rt: HostRuntime) -> anyhow::Result<()> {
     println!(rt; "text {TEXT}")?;
     report::<Score>(&rt, "score", &build::<Score>()?)?;
     report::<Count>(&rt, "count", &build::<Count>()?)?;
