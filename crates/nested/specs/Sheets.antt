@@ -1,6 +1,5 @@
 -- Sheets: weighted visibly pushdown automata, over texts with named tags.
-use Rattle.std.specs.Prelude.{◌≡◌, ℕ, ◌+◌, ◌*◌, ◌≤◌, List, [], ◌∷◌, length, ◌≢◌, slice_index_or}
-use Rattle.std.specs.List.{AllByRecursion}
+use Rattle.std.specs.Prelude.{◌≡◌, ℕ, ◌+◌, ◌*◌, ◌≤◌, All, AllPairs, List, length, ◌≢◌, slice_index_or}
 use Rattle.algebra.specs.Semiring.{Ops, product}
 use Rattle.algebra.specs.Tables.{Table, table_ops, between}
 use Rattle.nested.specs.declared.token.Token.{Token}
@@ -30,19 +29,18 @@ Between low high k = (low ≤ k) × (k ≤ high)
 
 -- one to eight letters a to z
 abbrev pub Name : List ℕ → Type 0
-Name name = Between 1 8 (length name) × AllByRecursion (Between 97 122) name
+Name name = Between 1 8 (length name) × All (Between 97 122) name
 
 -- no two are equal
 abbrev pub Apart : List (List ℕ) → Type 0
-Apart [] = Unit {0}
-Apart (x ∷ xs) = AllByRecursion (λ y. x ≢ y) xs × Apart xs
+Apart names = AllPairs (λ x y. x ≢ y) names
 
 -- the sheets that can be written: their sizes are in range, and nothing is missing or left over
 pub record Proper {V : Type 0} (S : Sheet V) : Type 0 where
   pub states_fit : Between 1 4 S.states
   pub letters_fit : Between 1 8 S.letters
   pub tags_fit : Between 1 8 (tags S)
-  pub named : AllByRecursion Name S.names
+  pub named : All Name S.names
   pub apart : Apart S.names
   pub start_long : length S.start ≡ S.states
   pub finish_long : length S.finish ≡ S.states

@@ -3,10 +3,10 @@ use Rattle.std.specs.Prelude.{ℕ, List, map}
 use Rattle.algebra.specs.Semiring.{Ops, product}
 use Rattle.algebra.specs.Tables.{Table, table_ops, between}
 use Rattle.kernels.specs.Entries.{table_of}
-use Rattle.walkthrough.specs.declared.class.Class.{Class}
-use Rattle.walkthrough.specs.declared.class.Class.TheVariants.{Space, Digit, Other}
+use Rattle.nested.specs.declared.token.Class.{Class}
+use Rattle.nested.specs.declared.token.Class.TheVariants.{Space, Digit, Other}
+use Rattle.nested.specs.Classes.{class_of}
 use Rattle.walkthrough.specs.declared.sheet.Sheet.{Sheet}
-use Rattle.walkthrough.specs.Class.{class_of}
 
 -- the entries of the table of a class
 abbrev pub class_entries : {V : Type 0} → Sheet V → Class → List V

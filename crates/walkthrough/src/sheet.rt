@@ -1,5 +1,6 @@
 // A sheet of two states for texts without tags.
 use algebra::interface::{Algebra, NoValue};
+use nested::token::Class;
 
 #[derive(Drop)]
 pub struct Sheet<V: Copy> {
@@ -10,13 +11,33 @@ pub struct Sheet<V: Copy> {
     pub other: [V; 4],
 }
 
-// Weights from their codes, none for zero.
-fn weights<A: Algebra, const N: usize>(codes: [Option<u32>; N]) -> Result<[A::Value; N], NoValue> {
-    let mut out = [A::zero(); N];
-    for i in 0..N {
-        if let Some(code) = codes[i] {
-            out[i] = A::value(code)?;
+impl<V: Copy> Sheet<V> {
+    ghost use Rattle.std.specs.Prelude.{◌≡◌};
+    ghost use Rattle.walkthrough.specs.Weight.{class_entries};
+
+    pub fn table(&self, class: Class) -> &[V; 4]
+        ensures { result.now ≡ class_entries self.now class }
+    {
+        match class {
+            Class::Space => &self.space,
+            Class::Digit => &self.digit,
+            Class::Other => &self.other,
         }
+    }
+}
+
+// The value with this code, zero for none.
+fn weight<A: Algebra>(code: Option<u32>) -> Result<A::Value, NoValue> {
+    match code {
+        Some(c) => A::value(c),
+        None => Ok(A::zero()),
+    }
+}
+
+fn weights<A: Algebra, const N: usize>(codes: &[Option<u32>; N]) -> Result<[A::Value; N], NoValue> {
+    let mut out = [A::zero(); N];
+    for (value, code) in out.iter_mut().zip(codes) {
+        *value = weight::<A>(*code)?;
     }
     Ok(out)
 }
@@ -28,10 +49,10 @@ pub const FINISH: [Option<u32>; 2] = [Some(1), Some(2)];
 // State 0 is outside a word and state 1 inside one; a digit may be read either way.
 pub fn build<A: Algebra>() -> Result<Sheet<A::Value>, NoValue> {
     Ok(Sheet {
-        start: weights::<A, 2>(START)?,
-        finish: weights::<A, 2>(FINISH)?,
-        space: weights::<A, 4>([Some(1), None, Some(2), None])?,
-        digit: weights::<A, 4>([Some(1), Some(2), None, Some(3)])?,
-        other: weights::<A, 4>([None, Some(2), None, Some(1)])?,
+        start: weights::<A, _>(&START)?,
+        finish: weights::<A, _>(&FINISH)?,
+        space: weights::<A, _>(&[Some(1), None, Some(2), None])?,
+        digit: weights::<A, _>(&[Some(1), Some(2), None, Some(3)])?,
+        other: weights::<A, _>(&[None, Some(2), None, Some(1)])?,
     })
 }

@@ -1,44 +1,29 @@
 // How weights are printed: by their codes.
-ghost use Rattle.std.specs.Prelude.{◌≡◌, ℕ, ◌<◌, length, None, slice_index_or};
+ghost use Rattle.std.specs.Prelude.{◌≡◌, map};
 
-use crate::class::Class;
 use algebra::interface::Algebra;
-use std::io;
+use std::fmt;
 
 // The codes of a table of two states.
-pub fn codes<A: Algebra>(table: &[A::Value]) -> [Option<u32>; 4]
-    ensures { (k : ℕ) (d : A.Value) → k < 4 → k < length table.now → slice_index_or result k None ≡ A.Algebra.codes.code (slice_index_or table.now k d) }
+pub fn codes<A: Algebra>(table: &[A::Value; 4]) -> [Option<u32>; 4]
+    ensures { result ≡ map A.codes.code table.now }
 {
-    let mut out = [None; 4];
-    for (i, weight) in table.iter().enumerate() {
-        if i < 4 {
-            out[i] = A::code(*weight);
-        }
-    }
-    out
+    let [a, b, c, d] = *table;
+    [A::code(a), A::code(b), A::code(c), A::code(d)]
 }
 
-// A line of codes, `none` for zero.
-pub fn print_codes(rt: &HostRuntime, label: &str, codes: &[Option<u32>]) -> io::Result<()> {
-    print!(rt; "{label}:")?;
-    for code in codes {
-        match code {
-            Some(c) => print!(rt; " {c}")?,
-            None => print!(rt; " none")?,
-        }
-    }
-    println!(rt; "")
-}
+// Codes as they are printed, `none` for zero.
+#[derive(Clone, Copy)]
+pub struct Line<'a>(pub &'a [Option<u32>]);
 
-pub fn print_step(
-    rt: &HostRuntime,
-    place: usize,
-    class: Class,
-    table: &[Option<u32>],
-    running: &[Option<u32>],
-) -> io::Result<()> {
-    let number = class as u8;
-    println!(rt; "place {place} class {number}")?;
-    print_codes(rt, "  times", table)?;
-    print_codes(rt, "  gives", running)
+impl fmt::Display for Line<'_> {
+    fn fmt<W: fmt::Write>(&self, f: &mut fmt::Formatter<W>) -> fmt::Result {
+        for code in self.0 {
+            match code {
+                Some(c) => write!(f, " {c}")?,
+                None => write!(f, " none")?,
+            }
+        }
+        Ok(())
+    }
 }
