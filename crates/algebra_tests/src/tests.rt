@@ -1,5 +1,5 @@
 // Sums, products and codes of each algebra, by tables of codes; none is zero.
-use algebra::interface::{Algebra, NoValue, Semiring};
+use algebra::interface::{Algebra, Semiring, weight};
 use bureau::matrices::Matrices;
 use bureau::trivial::Trivial;
 use count::Count;
@@ -15,13 +15,6 @@ struct Row(Option<u32>, Option<u32>, Option<u32>, Option<u32>);
 const ZERO: Option<u32> = None;
 
 const MOST: u32 = 1_000_000_000;
-
-fn weight<A: Algebra>(code: Option<u32>) -> Result<A::Value, NoValue> {
-    match code {
-        Some(c) => A::value(c),
-        None => Ok(A::zero()),
-    }
-}
 
 fn calculates<A: Algebra>(rt: &impl Abort, rows: &[Row]) -> Result<(), Fail> {
     for Row(a, b, sum, product) in rows {

@@ -7,9 +7,11 @@ ghost use Rattle.tables.specs.Answers.{Tested, Written, Answered};
 ghost use Rattle.tables.specs.Sizes.{Size, Square};
 
 use algebra::interface::Semiring;
+use thiserror::Error;
 
 // The refusal of a size that is not from one to four, or of a slice of another length.
-#[derive(Clone, Copy, Debug)]
+#[derive(Clone, Copy, Debug, PartialEq, Eq, Error)]
+#[error("a size that is not from one to four, or a slice of another length")]
 pub struct Misfit;
 
 fn test_table(n: usize, entries: usize) -> Result<(), Misfit>

@@ -1,5 +1,5 @@
 // A sheet of two states for texts without tags.
-use algebra::interface::{Algebra, NoValue};
+use algebra::interface::{Algebra, NoValue, weight};
 use nested::token::Class;
 
 #[derive(Drop)]
@@ -23,14 +23,6 @@ impl<V: Copy> Sheet<V> {
             Class::Digit => &self.digit,
             Class::Other => &self.other,
         }
-    }
-}
-
-// The value with this code, zero for none.
-fn weight<A: Algebra>(code: Option<u32>) -> Result<A::Value, NoValue> {
-    match code {
-        Some(c) => A::value(c),
-        None => Ok(A::zero()),
     }
 }
 
