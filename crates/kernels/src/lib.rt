@@ -12,6 +12,7 @@ pub fn dot<S: Semiring>(xs: &[S::Value], ys: &[S::Value], offset: usize, stride:
     ensures { result ≡ row_by_column S.ops xs.now ys.now offset stride (length xs.now) }
 {
     let mut total = S::zero();
+    // `ys` by index, since `step_by` asks for a stride above 0.
     for (r, x) in xs.iter().enumerate() {
         total = S::plus(total, S::times(*x, ys[offset + r * stride]));
     }

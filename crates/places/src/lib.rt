@@ -7,7 +7,7 @@ ghost use Rattle.places.specs.Places.{table_in, Kept, Fits, Apart};
 
 use algebra::interface::Semiring;
 
-// The entries from x on, where `size` entries are lent out between the two parts.
+// The `size` entries from x on, in a list of which `size` entries between these two parts are lent out.
 fn stretch<'a, V>(before: &'a [V], behind: &'a [V], size: usize, x: usize) -> &'a [V]
     requires fits { x + size ≤ length before.now + size + length behind.now }
     requires apart { Apart x size (length before.now) size }
