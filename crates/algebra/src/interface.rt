@@ -33,6 +33,7 @@ pub struct NoValue;
 
 // A weight algebra: a semiring whose values, but for zero, have codes.
 pub trait Algebra: Semiring {
+    // the byte by which sheets and records name the algebra: a bureau picks its own, so no enum lists them
     const NUMBER: u8;
 
     // the bytes of a code

@@ -1,4 +1,5 @@
-// The inner loops over square tables of weights, for slices that are known to fit.
+// The inner loops over square tables of weights, for slices that are known to fit. All memory is lent.
+// A view of a slice with its size would ask that the sizes of two views agree where a clause now asks for a length.
 #![tactic(auto)]
 
 ghost use Rattle.std.specs.Prelude.{◌≡◌, ℕ, ◌+◌, ◌*◌, ◌<◌, ◌≤◌, length, if◌then◌else◌, nat_eq};

@@ -1,4 +1,5 @@
-// Tables of weights at places of one lent slice, for places that are known to fit.
+// Tables of weights at places of one lent slice, for places that are known to fit. The slice is lent to each call anew:
+// a struct that held it would have to say in each clause that it still holds the same one.
 #![tactic(auto)]
 
 ghost use Rattle.std.specs.Prelude.{◌≡◌, ◌+◌, ◌*◌, ◌≤◌, ◌++◌, List, length, slice_range};

@@ -1,4 +1,4 @@
-// Square tables of weights in lent slices, row by row.
+// Square tables of weights in lent slices, row by row. Every call tests the slices that it is given, so no type holds the test.
 #![tactic(auto)]
 
 ghost use Rattle.std.specs.Prelude.{◌≡◌, ℕ, ◌*◌, length};
@@ -41,7 +41,7 @@ pub fn sum<S: Semiring>(
     Ok(())
 }
 
-// Writes x · y.
+// Writes x · y. As `sum` but for the kernel: to take that as a closure, a clause would have to say what it writes to `out`.
 pub fn product<S: Semiring>(
     n: usize,
     x: &[S::Value],
