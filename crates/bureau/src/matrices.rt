@@ -72,8 +72,11 @@ impl Algebra for Matrices {
     ghost coded = { matrix_coded };
 
     fn code(value: Matrix) -> Option<u32> {
-        let number = value.a as u32 + 2 * value.b as u32 + 4 * value.c as u32 + 8 * value.d as u32;
-        Below::<MATRICES> { number }.own_code()
+        let [a, b, c, d] = [value.a, value.b, value.c, value.d].map(u32::from);
+        Below::<MATRICES> {
+            number: a + 2 * b + 4 * c + 8 * d,
+        }
+        .own_code()
     }
 
     fn value(code: u32) -> Result<Matrix, NoValue> {

@@ -11,3 +11,9 @@ is_digit b = nat_le 0x30 b && nat_le b 0x39
 
 abbrev pub class_of : ℕ → Class
 class_of b = if is_space b then Space else if is_digit b then Digit else Other
+
+-- the number of a class
+abbrev pub class_number : Class → ℕ
+class_number Space = 0
+class_number Digit = 1
+class_number Other = 2

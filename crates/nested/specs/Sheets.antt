@@ -3,7 +3,7 @@ use Rattle.std.specs.Prelude.{◌≡◌, ℕ, ◌+◌, ◌*◌, ◌≤◌, All, 
 use Rattle.algebra.specs.Semiring.{Ops, product}
 use Rattle.algebra.specs.Tables.{Table, table_ops, between}
 use Rattle.nested.specs.declared.token.Token.{Token}
-use Rattle.nested.specs.Tokens.{class_number}
+use Rattle.nested.specs.Classes.{class_number}
 use Rattle.nested.specs.Summaries.{Transitions, Summary, join, of_text, strip}
 
 -- Rows have a weight, and tables a row, for each state. Text tables stand by class, mark and bottom tables by tag, and open

@@ -1,15 +1,8 @@
 -- A tagged text as a list of tokens.
 use Rattle.std.specs.Prelude.{ℕ, suc, List, [], ◌∷◌, slice_index_or}
-use Rattle.nested.specs.declared.token.Class.{Class}
-use Rattle.nested.specs.declared.token.Class.TheVariants.{Space, Digit, Other}
+use Rattle.nested.specs.declared.token.Class.TheVariants.{Other}
 use Rattle.nested.specs.declared.token.Token.{Token}
 use Rattle.nested.specs.declared.token.Token.TheVariants.{Text, Mark, Opening, Closing}
-
--- the number of a class
-abbrev pub class_number : Class → ℕ
-class_number Space = 0
-class_number Digit = 1
-class_number Other = 2
 
 abbrev pub Opens : Token → Type 0
 Opens (Text c) = ⊥

@@ -18,43 +18,43 @@ pub fn matching_is_unique<R: Relation>()
 {}
 
 pub fn join_is_associative<S: Semiring>()
-    ensures { JoinIsAssociative S.Semiring.ops }
+    ensures { JoinIsAssociative S.ops }
 {}
 
 pub fn empty_is_neutral<S: Semiring>()
-    ensures { EmptyIsNeutral S.Semiring.ops }
+    ensures { EmptyIsNeutral S.ops }
 {}
 
 pub fn join_replays<S: Semiring>()
-    ensures { JoinReplays S.Semiring.ops }
+    ensures { JoinReplays S.ops }
 {}
 
 pub fn summaries_join<S: Semiring>()
-    ensures { SummariesJoin S.Semiring.ops }
+    ensures { SummariesJoin S.ops }
 {}
 
 pub fn tokens_move<S: Semiring>()
-    ensures { TokensMove S.Semiring.ops }
+    ensures { TokensMove S.ops }
 {}
 
 pub fn weight_is_the_value<S: Semiring>()
-    ensures { WeightIsTheValue S.Semiring.ops }
+    ensures { WeightIsTheValue S.ops }
 {}
 
 pub fn runs_are_all<S: Semiring>()
-    ensures { RunsAreAll S.Semiring.ops }
+    ensures { RunsAreAll S.ops }
 {}
 
 pub fn runs_stand_once<S: Semiring>()
-    ensures { RunsStandOnce S.Semiring.ops }
+    ensures { RunsStandOnce S.ops }
 {}
 
 pub fn pending_tags_are_kept<S: Semiring>()
-    ensures { PendingTagsAreKept S.Semiring.ops }
+    ensures { PendingTagsAreKept S.ops }
 {}
 
 pub fn join_counts<S: Semiring>()
-    ensures { JoinCounts S.Semiring.ops }
+    ensures { JoinCounts S.ops }
 {}
 
 pub fn stretches_are_not_too_deep()
@@ -62,5 +62,5 @@ pub fn stretches_are_not_too_deep()
 {}
 
 pub fn like_may_be_exchanged<S: Semiring>()
-    ensures { LikeMayBeExchanged S.Semiring.ops }
+    ensures { LikeMayBeExchanged S.ops }
 {}

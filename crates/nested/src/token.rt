@@ -1,6 +1,6 @@
 // What a tagged text is made of.
 ghost use Rattle.std.specs.Prelude.{◌≡◌};
-ghost use Rattle.nested.specs.Classes.{class_of};
+ghost use Rattle.nested.specs.Classes.{class_of, class_number};
 
 // The class of a byte outside tags.
 #[derive(Clone, Copy, Debug, PartialEq, Eq)]
@@ -19,6 +19,14 @@ impl From<u8> for Class {
             0x30..=0x39 => Class::Digit,
             _ => Class::Other,
         }
+    }
+}
+
+impl From<Class> for u8 {
+    ghost from_gives = { λ class number. number ≡ class_number class };
+
+    fn from(class: Class) -> u8 {
+        class as u8
     }
 }
 

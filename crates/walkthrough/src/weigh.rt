@@ -31,7 +31,7 @@ pub fn weigh<A: Algebra>(
         let class = Class::from(byte);
         let table = sheet.table(class);
         running = product::<A>(&running, table);
-        println!(rt; "place {place} class {}", class as u8)?;
+        println!(rt; "place {place} class {}", u8::from(class))?;
         println!(rt; "  times:{}", Line(&codes::<A>(table)))?;
         println!(rt; "  gives:{}", Line(&codes::<A>(&running)))?;
     }
