@@ -1,11 +1,10 @@
 -- The weight of a text, the sum over its runs by positions, is the value of its summary.
-use Rattle.std.proofs.Common.{◌≡◌, ℕ, zero, suc, ◌+◌, ◌<◌, cond, List, [], ◌∷◌, ◌++◌, map, length, get_or, drop, sym, refl, ap, ◌∙◌, add-zero, zero-add, add-one, arith, drop-cons}
+use Rattle.std.proofs.Common.{◌≡◌, ℕ, zero, suc, ◌+◌, ◌<◌, List, [], ◌∷◌, ◌++◌, map, length, get_or, drop, sym, ap, ◌∙◌, add-zero, zero-add, add-one, arith, drop-cons}
 use Rattle.std.specs.List.{range_with_len}
-use Rattle.std.proofs.lemmas.Bool.{eq-eqb, ne_eqb}
 use Rattle.algebra.specs.Semiring.{Ops, Laws, sum_to, product, sum_over, all_lists}
 use Rattle.algebra.specs.Tables.{Table, cell, table_ops}
 use Rattle.algebra.proofs.Sums.{sum_below, sum_same, times_sum, sum_times, sum_swap}
-use Rattle.algebra.proofs.TableLaws.{at_times, at_one, table_laws, sum_single}
+use Rattle.algebra.proofs.TableLaws.{cell-filled, one_in_row, table_laws}
 use Rattle.algebra.proofs.Walks.{over_fronts, times_over}
 use Rattle.algebra.proofs.SumsOver.{over_same, over_times, over_swap, over_lists, cell_over}
 use Rattle.nested.specs.declared.token.Token.{Token}
@@ -29,16 +28,12 @@ module _ {V : Type 0} {O : Ops V} (L : Laws O) where
 
     paths : (As : List (Table V n)) (p : ℕ) → p < n → sum_to O n (λ q. O.times (cell O (product (table_ops O n) As) p q) (f q)) ≡ sum_over O (all_lists n (length As)) (λ rs. path p As rs)
     paths [] p hp =
-        sum_single L n p _ hp (λ q hq ne. ap (λ x. O.times x (f q)) (at_one L n p q hp hq ∙ ap (λ b. cond b O.one O.zero) (ne_eqb p q (λ same. ne (sym same)))) ∙ L.zero_times _)
-        ∙ ap (λ x. O.times x (f p)) (at_one L n p p hp hp ∙ ap (λ b. cond b O.one O.zero) (eq-eqb p p refl))
-        ∙ L.one_times (f p)
+        sum_below L n _ _ (λ q hq. ap (λ x. O.times x (f q)) (cell-filled O n _ p q hp hq)) ∙ one_in_row L n p f hp
         ∙ sym (L.plus_zero (f p))
     paths (A ∷ As) p hp =
-        sum_below L n _ (λ q. sum_to O n (λ r. O.times (cell O A p r) (O.times (cell O (product (table_ops O n) As) r q) (f q))))
-        (λ q hq. ap (λ x. O.times x (f q)) (at_times L n A (product (table_ops O n) As) p q hp hq) ∙ sum_times L n _ (f q) ∙ sum_same L n (λ r. L.times_assoc _ _ _))
+        sum_below L n _ _ (λ q hq. ap (λ x. O.times x (f q)) (cell-filled O n _ p q hp hq) ∙ sum_times L n _ (f q) ∙ sum_same L n (λ r. L.times_assoc _ _ _))
         ∙ sum_swap L n n (λ q r. O.times (cell O A p r) (O.times (cell O (product (table_ops O n) As) r q) (f q)))
-        ∙ sum_below L n _ (λ r. sum_over O (all_lists n (length As)) (λ rs. O.times (cell O A p r) (path r As rs)))
-        (λ r hr. sym (times_sum L n (cell O A p r) (λ q. O.times (cell O (product (table_ops O n) As) r q) (f q))) ∙ ap (O.times (cell O A p r)) (paths As r hr) ∙ times_over L (cell O A p r) (all_lists n (length As)) (λ rs. path r As rs))
+        ∙ sum_below L n _ _ (λ r hr. sym (times_sum L n (cell O A p r) (λ q. O.times (cell O (product (table_ops O n) As) r q) (f q))) ∙ ap (O.times (cell O A p r)) (paths As r hr) ∙ times_over L (cell O A p r) (all_lists n (length As)) (λ rs. path r As rs))
         ∙ sym (over_fronts L n (all_lists n (length As)) (λ rs. path p (A ∷ As) rs))
 
     -- the factors by position, from position k on
