@@ -1,7 +1,7 @@
 -- How many tags are pending in two texts in a row, and in a stretch of a shallow text.
-use Rattle.std.proofs.Common.{◌≡◌, ℕ, ◌+◌, ◌-◌, ◌≤◌, List, [], ◌∷◌, ◌++◌, length, sym, refl, ap, ◌∙◌, subst, inl, inr, append_assoc, arith, length-append}
+use Rattle.std.proofs.Common.{◌≡◌, ℕ, ◌+◌, ◌-◌, ◌≤◌, List, [], ◌∷◌, ◌++◌, length, refl, ap, inl, inr, append_assoc, arith, length-append}
 use Rattle.nested.specs.declared.token.Token.{Token}
-use Rattle.nested.specs.declared.token.Token.TheVariants.{Text, Mark, Opening, Closing}
+use Rattle.nested.specs.declared.token.Token.TheVariants.{Opening, Closing}
 use Rattle.nested.specs.Pending.{closes_after, opens_after, pending_closes, pending_opens, TooDeep, Prefix, Shallow}
 
 -- behind the waiting opens σ
@@ -36,7 +36,7 @@ pub pending_opens-append : (u v : List Token) → pending_opens (u ++ v) ≡ pen
 pending_opens-append u v = rw opens-append (opens_from _ v)
 
 pub pending_closes-append : (u v : List Token) → pending_closes (u ++ v) ≡ pending_closes u + (pending_closes v - pending_opens u)
-pending_closes-append u v = simp (closes-append, length-append, closes_from)
+pending_closes-append u v = rw (closes-append, length-append, closes_from (opens_after [] u) v)
 
 -- every prefix of a stretch of a shallow text
 module _ (u v z : List Token) (shallow : Shallow (u ++ (v ++ z))) (p : List Token) (pre : Prefix p v) where
