@@ -15,38 +15,28 @@ close_tags cs = map (λ c. c.tag) cs
 abbrev pub open_tags : {T : Type 0} → List (Open T) → List ℕ
 open_tags os = map (λ o. o.tag) os
 
--- a table more leaves the tags as they are
-module _ {T : Type 0} (O : Ops T) (cs : List (Close T)) (m : T) where
-  pub last_closes : (os : List (Open T)) (x : T) → (last_times O cs m os x).closes ≡ cs
-  last_closes [] x = refl
-  last_closes (o ∷ os) x = refl
-
-  pub last_opens : (os : List (Open T)) (x : T) → length (last_times O cs m os x).opens ≡ length os
-  last_opens [] x = refl
-  last_opens (o ∷ os) x = refl
+-- a table more leaves as many tags as there are
+last_lengths : {T : Type 0} (O : Ops T) (cs : List (Close T)) (m : T) (os : List (Open T)) (x : T) → (length (last_times O cs m os x).closes ≡ length cs) × (length (last_times O cs m os x).opens ≡ length os)
+last_lengths O cs m [] x = (refl, refl)
+last_lengths O cs m (o ∷ os) x = (refl, refl)
 
 module _ {T : Type 0} (O : Ops T) (M : Transitions T) where
-  pairing_closes : (cs : List (Close T)) (m : T) (os : List (Open T)) (ds : List (Close T)) (n : T) (ps : List (Open T)) → length (pairing O M cs m os ds n ps).closes ≡ length cs + (length ds - length os)
-  pairing_closes cs m os [] n ps = omega (arith, ap length (last_closes O cs m os n))
-  pairing_closes cs m [] (d ∷ ds) n ps = simp length-append (omega arith)
-  pairing_closes cs m (o ∷ os) (d ∷ ds) n ps =
+  pairing_lengths : (cs : List (Close T)) (m : T) (os : List (Open T)) (ds : List (Close T)) (n : T) (ps : List (Open T))
+      → (length (pairing O M cs m os ds n ps).closes ≡ length cs + (length ds - length os)) × (length (pairing O M cs m os ds n ps).opens ≡ length ps + (length os - length ds))
+  pairing_lengths cs m os [] n ps = let l = last_lengths O cs m os n in (omega arith, simp length-append (omega arith))
+  pairing_lengths cs m [] (d ∷ ds) n ps = (simp length-append (omega arith), omega arith)
+  pairing_lengths cs m (o ∷ os) (d ∷ ds) n ps =
       let x = pair O M o.tag (O.times o.after d.before) d.tag in
       let L = last_times O cs m os x in
-      omega (arith, pairing_closes L.closes L.middle L.opens ds n ps, ap length (last_closes O cs m os x), last_opens O cs m os x)
-
-  pairing_opens : (cs : List (Close T)) (m : T) (os : List (Open T)) (ds : List (Close T)) (n : T) (ps : List (Open T)) → length (pairing O M cs m os ds n ps).opens ≡ length ps + (length os - length ds)
-  pairing_opens cs m os [] n ps = omega (arith, length-append ps (last_times O cs m os n).opens, last_opens O cs m os n)
-  pairing_opens cs m [] (d ∷ ds) n ps = omega arith
-  pairing_opens cs m (o ∷ os) (d ∷ ds) n ps =
-      let x = pair O M o.tag (O.times o.after d.before) d.tag in
-      let L = last_times O cs m os x in
-      omega (arith, pairing_opens L.closes L.middle L.opens ds n ps, last_opens O cs m os x)
+      let l = last_lengths O cs m os x in
+      let rest = pairing_lengths L.closes L.middle L.opens ds n ps in
+      (omega arith, omega arith)
 
   pub join_closes : (L R : Summary T) → length (join O M L R).closes ≡ length L.closes + (length R.closes - length L.opens)
-  join_closes L R = pairing_closes L.closes L.middle L.opens R.closes R.middle R.opens
+  join_closes L R = (pairing_lengths L.closes L.middle L.opens R.closes R.middle R.opens).0
 
   pub join_opens : (L R : Summary T) → length (join O M L R).opens ≡ length R.opens + (length L.opens - length R.closes)
-  join_opens L R = pairing_opens L.closes L.middle L.opens R.closes R.middle R.opens
+  join_opens L R = (pairing_lengths L.closes L.middle L.opens R.closes R.middle R.opens).1
 
   -- a token's step does to the tags what the token does; both compute at each stack and each token
   step_opens : (cs : List (Close T)) (m : T) (os : List (Open T)) (t : Token) (w : List Token) → opens_after (open_tags (step O M (move O M t) (summary cs m os)).opens) w ≡ opens_after (open_tags os) (t ∷ w)

@@ -1,5 +1,5 @@
 -- The tables of a run by position, where a close finds its letter through the matching, are those by its stack of letters.
-use Rattle.std.proofs.Common.{◌≡◌, ℕ, zero, suc, ◌+◌, List, [], ◌∷◌, map, length, get_or, take, drop, sym, refl, ap, ◌∙◌, ap₂, add-zero, arith, get_or-drop, drop-drop}
+use Rattle.std.proofs.Common.{◌≡◌, ℕ, zero, suc, ◌+◌, List, [], ◌∷◌, map, length, take, drop, sym, refl, add-zero, add-one, arith, get_or-drop, drop-drop}
 use Rattle.std.specs.List.{range_with_len}
 use Rattle.nested.specs.declared.token.Token.{Token}
 use Rattle.nested.specs.declared.token.Token.TheVariants.{Text, Mark, Opening, Closing}
@@ -23,10 +23,6 @@ count_next (Opening a ∷ w) (suc k) = omega (arith, count_next w k)
 count_next (t ∷ w) (suc k) = count_next w k
 
 module _ {T : Type 0} (M : Transitions T) where
-  trace_open : (a : ℕ) (v : List Token) (τ ls : List ℕ) → trace M (Opening a ∷ v) τ ls ≡ M.opening a (get_or ls 0 0) ∷ trace M v (get_or ls 0 0 ∷ τ) (drop 1 ls)
-  trace_open a v τ [] = refl
-  trace_open a v τ (l ∷ ls) = refl
-
   module _ (w : List Token) (ls : List ℕ) where
     -- the table of a token at position k, where the opens σ wait
     abbrev table_with : Token → ℕ → List ℕ → T
@@ -41,11 +37,7 @@ module _ {T : Type 0} (M : Transitions T) where
 
     -- the stack of letters is that of the waiting opens
     trace_next : (t : Token) (v : List Token) (k : ℕ) (σ : List ℕ) → trace M (t ∷ v) (map (letter_at w ls) σ) (drop (count_opens (take k w)) ls) ≡ table_with t k σ ∷ trace M v (map (letter_at w ls) (next t k σ)) (drop (count_opens (take k w) + count_opens (t ∷ [])) ls)
-    trace_next (Opening a) v k σ =
-        trace_open a v (map (letter_at w ls) σ) (drop (count_opens (take k w)) ls)
-        ∙ ap₂ (λ l rest. M.opening a l ∷ trace M v (l ∷ map (letter_at w ls) σ) rest)
-        (get_or-drop (count_opens (take k w)) ls 0 0 ∙ ap (λ n. get_or ls n 0) (add-zero (count_opens (take k w))))
-        (drop-drop 1 (count_opens (take k w)) ls)
+    trace_next (Opening a) v k σ = rw (get_or-drop (count_opens (take k w)) ls 0 0, add-zero, drop-drop 1 (count_opens (take k w)) ls)
     trace_next (Closing b) v k [] = rw add-zero
     trace_next t v k σ = rw add-zero
 
@@ -53,12 +45,7 @@ module _ {T : Type 0} (M : Transitions T) where
     from_position [] k e = refl
     from_position (t ∷ v) k e =
         let d = dropped k w t v e in
-        ap (λ s. trace M (s ∷ v) (map (letter_at w ls) (waiting w k)) (drop (count_opens (take k w)) ls)) (sym d.0)
-        ∙ trace_next (token_at w k) v k (waiting w k)
-        ∙ ap₂ ◌∷◌ (table_waiting (token_at w k) k)
-        (ap (λ n. trace M v (map (letter_at w ls) (waiting w (suc k))) (drop n ls)) (sym (count_next w k))
-        ∙ from_position v (suc k) d.1
-        ∙ ap (λ n. map (table_at M w ls) (range_with_len n (length v))) (omega arith))
+        rw (← d.0, trace_next (token_at w k) v k (waiting w k), table_waiting (token_at w k) k, ← count_next w k, from_position v (suc k) d.1, add-one)
 
     pub by_position : map (table_at M w ls) (range_with_len 0 (length w)) ≡ trace M w [] ls
     by_position = sym (from_position w 0 refl)

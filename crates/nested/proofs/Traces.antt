@@ -1,5 +1,5 @@
 -- Runs by a stack of letters: the tables of one run, and the sum over all of them.
-use Rattle.std.proofs.Common.{◌≡◌, ℕ, suc, List, [], ◌∷◌, map, length, sym, refl, ap, ◌∙◌}
+use Rattle.std.proofs.Common.{◌≡◌, ℕ, suc, List, [], ◌∷◌, map, length, get_or, drop, sym, refl, ap, ◌∙◌}
 use Rattle.algebra.specs.Semiring.{Ops, Laws, sum_to, product, sum_over, all_lists}
 use Rattle.algebra.proofs.Sums.{sum_same}
 use Rattle.algebra.proofs.Walks.{times_over, over_fronts}
@@ -15,15 +15,13 @@ module _ {T : Type 0} (M : Transitions T) where
   trace [] σ ls = []
   trace (Text c ∷ w) σ ls = M.text c ∷ trace w σ ls
   trace (Mark t ∷ w) σ ls = M.mark t ∷ trace w σ ls
-  trace (Opening a ∷ w) σ [] = M.opening a 0 ∷ trace w (0 ∷ σ) []
-  trace (Opening a ∷ w) σ (c ∷ ls) = M.opening a c ∷ trace w (c ∷ σ) ls
+  trace (Opening a ∷ w) σ ls = M.opening a (get_or ls 0 0) ∷ trace w (get_or ls 0 0 ∷ σ) (drop 1 ls)
   trace (Closing b ∷ w) [] ls = M.bottom b ∷ trace w [] ls
   trace (Closing b ∷ w) (c ∷ σ) ls = M.closing b c ∷ trace w σ ls
 
   pub length-trace : (w : List Token) (σ ls : List ℕ) → length (trace w σ ls) ≡ length w
   length-trace [] σ ls = refl
-  length-trace (Opening a ∷ w) σ [] = ap suc (length-trace w (0 ∷ σ) [])
-  length-trace (Opening a ∷ w) σ (c ∷ ls) = ap suc (length-trace w (c ∷ σ) ls)
+  length-trace (Opening a ∷ w) σ ls = ap suc (length-trace w (get_or ls 0 0 ∷ σ) (drop 1 ls))
   length-trace (Closing b ∷ w) (c ∷ σ) ls = ap suc (length-trace w σ ls)
   length-trace (t ∷ w) σ ls = ap suc (length-trace w σ ls)
 
