@@ -1,5 +1,5 @@
 -- Numbers and lists of bits undo each other.
-use Rattle.std.proofs.Common.{◌≡◌, ℕ, zero, suc, ◌+◌, ◌*◌, ◌/◌, ◌%◌, ◌^◌, ◌<◌, Bool, true, false, if◌then◌else◌, ◌==◌, List, [], ◌∷◌, length, refl, arith}
+use Rattle.std.proofs.Common.{◌≡◌, ℕ, zero, suc, ◌+◌, ◌*◌, ◌/◌, ◌%◌, ◌^◌, ◌<◌, Bool, true, false, if◌then◌else◌, List, [], ◌∷◌, length, refl, arith}
 use native.Mathlib.Nat.{pow-succ'}
 use Rattle.algebra.specs.Bits.{bits, number}
 
@@ -14,9 +14,6 @@ bits-number [] = refl
 bits-number (true ∷ bs) = simp (low true, rest true, bits-number bs)
 bits-number (false ∷ bs) = simp (low false, rest false, bits-number bs)
 
-pub low_bit : (n : ℕ) → (if n % 2 == 1 then 1 else 0) ≡ n % 2
-low_bit n = grind arith
-
 pub number-bits : (k n : ℕ) → n < 2 ^ k → number (bits k n) ≡ n
 number-bits zero n h = omega arith
-number-bits (suc k) n h = let p = pow-succ' 2 k in omega (arith, low_bit n, number-bits k (n / 2) (omega (arith, p)))
+number-bits (suc k) n h = let p = pow-succ' 2 k in let r = number-bits k (n / 2) (omega (arith, p)) in grind arith

@@ -46,7 +46,7 @@ module _ {V : Type 0} {O : Ops V} (S : Laws O) where
   ]
 
   module _ (n : ℕ) where
-    -- a product with a filled table
+    -- a product with a filled table, on the right and on the left
     times_filled : (A : Table V n) (f : ℕ → ℕ → V) (p q : ℕ) → p < n → q < n → cell O (table_times O A (filled O n f)) p q ≡ sum_to O n (λ r. O.times (cell O A p r) (f r q))
     times_filled A f p q hp hq = cell-filled O n _ p q hp hq ∙ sum_below S n _ _ (λ r hr. ap (O.times (cell O A p r)) (cell-filled O n f r q hr hq))
 
@@ -72,7 +72,8 @@ module _ {V : Type 0} {O : Ops V} (S : Laws O) where
       plus_assoc = λ A B C. table_same O _ _ (λ p q hp hq. simp (cell-filled, S.plus_assoc));
       plus_comm = λ A B. table_same O _ _ (λ p q hp hq. simp cell-filled (S.plus_comm _ _));
       plus_zero = λ A. table_same O _ _ (λ p q hp hq. simp (cell-filled, S.plus_zero));
-      times_assoc = λ A B C. table_same O _ _ (λ p q hp hq. filled_times _ C p q hp hq ∙ simp (sum_times S n, times_filled, times_sum S n, S.times_assoc) (sum_swap S n n _));
+      times_assoc = λ A B C. table_same O _ _ (λ p q hp hq.
+          filled_times _ C p q hp hq ∙ simp (sum_times S n, times_filled, times_sum S n, S.times_assoc) (sum_swap S n n _));
       one_times = λ A. table_same O _ _ (λ p q hp hq. filled_times _ A p q hp hq ∙ one_in_row p (λ r. cell O A r q) hp);
       times_one = table_times_one;
       times_plus = λ A B C. table_same O _ _ (λ p q hp hq. times_filled A _ p q hp hq ∙ simp (cell-filled, S.times_plus, sum_plus S n));

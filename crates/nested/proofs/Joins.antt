@@ -81,7 +81,8 @@ module _ {T : Type 0} {O : Ops T} (S : Laws O) (M : Transitions T) where
   replay_replay L R (s ∷ ss) = replay_replay L (step O M s R) ss ∙ ap (replay O M ss) (replay_step L R s)
 
   pub join_assoc : (A B C : Summary T) → join O M (join O M A B) C ≡ join O M A (join O M B C)
-  join_assoc A B C = rw (join_replay (join O M A B) C, join_replay A B, join_replay A (join O M B C), join_replay B C) (sym (replay_replay A B (moves C)))
+  join_assoc A B C =
+      rw (join_replay (join O M A B) C, join_replay A B, join_replay A (join O M B C), join_replay B C) (sym (replay_replay A B (moves C)))
 
   -- texts
   pub extended_join : (L : Summary T) (w : List Token) → extended O M L w ≡ join O M L (of_text O M w)

@@ -10,7 +10,7 @@ use Rattle.score.specs.Score.{most, Points, capped, score_plus, score_times, sco
 pub same : {a b : Points} → a.number ≡ b.number → ◌≡◌ {A = Option Points} (Some a) (Some b)
 same e = ap Some (below_path e)
 
--- each law is of three scores, or holds at once where there is none among them
+-- where a score is none, both sides of a law compute to the same
 plus_assoc : (x y z : Option Points) → score_plus (score_plus x y) z ≡ score_plus x (score_plus y z)
 plus_assoc (Some a) (Some b) (Some c) = same (omega arith)
 plus_assoc x y z = refl

@@ -18,7 +18,9 @@ max_or x y = grind arith
 pub or_number : (xs ys : List Bool) → bit_or (number xs) (number ys) ≡ number (ors xs ys)
 or_number [] ys = or_zero_l (number ys)
 or_number (x ∷ xs) [] = or_zero_r (number (x ∷ xs))
-or_number (x ∷ xs) (y ∷ ys) = rw (or_step (number (x ∷ xs)) (number (y ∷ ys)), rest x (number xs), rest y (number ys), low x (number xs), low y (number ys), or_number xs ys, max_or x y) (omega arith)
+or_number (x ∷ xs) (y ∷ ys) =
+    rw (or_step (number (x ∷ xs)) (number (y ∷ ys)), rest x (number xs), rest y (number ys), or_number xs ys)
+    (rw (low x (number xs), low y (number ys), max_or x y) (omega arith))
 
 -- bit by bit, as far as both lists go
 abbrev pub ands : List Bool → List Bool → List Bool
@@ -31,4 +33,6 @@ min_and x n = grind arith
 
 pub and_bits : (mask : List Bool) (n : ℕ) → bit_and (number mask) n ≡ number (ands mask (bits (length mask) n))
 and_bits [] n = and_zero_l n
-and_bits (x ∷ xs) n = rw (and_step (number (x ∷ xs)) n, rest x (number xs), low x (number xs), and_bits xs (n / 2), min_and x n) (omega arith)
+and_bits (x ∷ xs) n =
+    rw (and_step (number (x ∷ xs)) n, rest x (number xs), and_bits xs (n / 2))
+    (rw (low x (number xs), min_and x n) (omega arith))
