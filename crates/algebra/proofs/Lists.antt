@@ -1,9 +1,9 @@
 -- The lists that sums range over: those of the right length and range, and each once.
-use Rattle.std.proofs.Common.{◌≡◌, ℕ, zero, suc, ◌<◌, ◌⊎◌, List, [], ◌∷◌, ◌++◌, map, length, sym, refl, ap, ◌∙◌, subst, inl, inr, arith}
+use Rattle.std.proofs.Common.{◌≡◌, ℕ, zero, suc, ◌<◌, List, [], ◌∷◌, length, sym, refl, ap, ◌∙◌, subst, inl, inr, arith}
 use mathlib.Core.Path.{fun_ext}
 use mathlib.Core.List.Memᴰ
-use mathlib.Core.List.{Memᴰ, head-eq_of_cons-eq, tail-eq_of_cons-eq}
-use native.Mathlib.Decide.{ℕ_discrete}
+use mathlib.Core.List.{Memᴰ}
+use Rattle.std.proofs.lemmas.Bool.{cases_eq}
 use Rattle.std.specs.List.{AllByRecursion}
 use Rattle.algebra.specs.Semiring.{Ops, Laws, sum_over, fronts, all_lists, Listed}
 use Rattle.algebra.proofs.Sums.{zero_plus}
@@ -11,12 +11,11 @@ use Rattle.algebra.proofs.TableLaws.{sum_single}
 use Rattle.algebra.proofs.Walks.{over_fronts}
 
 in_fronts : (n : ℕ) (ls : List (List ℕ)) (r : ℕ) (rs : List ℕ) → r < n → Memᴰ rs ls → Memᴰ (r ∷ rs) (fronts n ls)
-in_fronts zero ls r rs h m = let none : ⊥ = omega arith in absurd none
-in_fronts (suc n) ls r rs h m = go (ℕ_discrete r n) (λ below. in_fronts n ls r rs below m)
-  where
-    go : Dec (r ≡ n) → (r < n → Memᴰ (r ∷ rs) (fronts n ls)) → Memᴰ (r ∷ rs) (fronts n ls ++ map (λ l. n ∷ l) ls)
-    go (yes e) before = Memᴰ.append_right (fronts n ls) (Memᴰ.cast (ap (λ x. x ∷ rs) e) (Memᴰ.map (λ l. n ∷ l) m))
-    go (no ne) before = Memᴰ.append_left _ (before (omega arith))
+in_fronts zero ls r rs h m = absurd (omega arith)
+in_fronts (suc n) ls r rs h m = elim (cases_eq r n) [
+  | inl e ↦ Memᴰ.append_right (fronts n ls) (Memᴰ.cast (ap (λ x. x ∷ rs) e) (Memᴰ.map (λ l. n ∷ l) m))
+  | inr ne ↦ Memᴰ.append_left _ (in_fronts n ls r rs (omega arith) m)
+]
 
 pub in_all_lists : (n : ℕ) (rs : List ℕ) → AllByRecursion (λ r. r < n) rs → Memᴰ rs (all_lists n (length rs))
 in_all_lists n [] all = Memᴰ.head refl
@@ -24,14 +23,10 @@ in_all_lists n (r ∷ rs) all = in_fronts n (all_lists n (length rs)) r rs all.0
 
 of_fronts : (n : ℕ) (ls : List (List ℕ)) (rs : List ℕ) → Memᴰ rs (fronts n ls) → (r : ℕ) × (l : List ℕ) × (r < n) × Memᴰ l ls × (rs ≡ r ∷ l)
 of_fronts zero ls rs m = absurd (Memᴰ.not-nil m)
-of_fronts (suc n) ls rs m = go (λ before. of_fronts n ls rs before) (Memᴰ.append_cases (fronts n ls) m)
-  where
-    Found : ℕ → Type 0
-    Found k = (r : ℕ) × (l : List ℕ) × (r < k) × Memᴰ l ls × (rs ≡ r ∷ l)
-
-    go : (Memᴰ rs (fronts n ls) → Found n) → Memᴰ rs (fronts n ls) ⊎ Memᴰ rs (map (λ l. n ∷ l) ls) → Found (suc n)
-    go before (inl m) = let f = before m in (f.0, f.1, omega (arith, f.2), f.3, f.4)
-    go before (inr m) = let f = Memᴰ.of_map (λ l. n ∷ l) ls m in (n, f.0, omega arith, f.1, sym f.2)
+of_fronts (suc n) ls rs m = elim (Memᴰ.append_cases (fronts n ls) m) [
+  | inl before ↦ let f = of_fronts n ls rs before in (f.0, f.1, omega (arith, f.2), f.3, f.4)
+  | inr last ↦ let f = Memᴰ.of_map (λ l. n ∷ l) ls last in (n, f.0, omega arith, f.1, sym f.2)
+]
 
 pub of_all_lists : (n k : ℕ) (rs : List ℕ) → Memᴰ rs (all_lists n k) → Listed n k rs
 of_all_lists n zero rs m = subst (Listed n 0) (sym (Memᴰ.eq_of_singleton m)) (refl, tt)
@@ -52,10 +47,9 @@ module _ {T : Type 0} {O : Ops T} (S : Laws O) where
   pub over_single : (n : ℕ) (rs : List ℕ) (f : List ℕ → T) → AllByRecursion (λ r. r < n) rs → ((l : List ℕ) → (l ≡ rs → ⊥) → f l ≡ O.zero) → sum_over O (all_lists n (length rs)) f ≡ f rs
   over_single n [] f all others = S.plus_zero (f [])
   over_single n (r ∷ rs) f all others =
-      over_fronts S n (all_lists n (length rs)) f
-      ∙ sum_single S n r (λ i. sum_over O (all_lists n (length rs)) (λ l. f (i ∷ l))) all.0
-      (λ i hi ne. ap (sum_over O (all_lists n (length rs))) (fun_ext (λ l. others (i ∷ l) (λ e. ne (head-eq_of_cons-eq e)))) ∙ over_zero (all_lists n (length rs)))
-      ∙ over_single n rs (λ l. f (r ∷ l)) all.1 (λ l ne. others (r ∷ l) (λ e. ne (tail-eq_of_cons-eq e)))
+      over_fronts S n _ f
+      ∙ sum_single S n r _ all.0 (λ i hi ne. ap (sum_over O (all_lists n (length rs))) (fun_ext (λ l. others (i ∷ l) (λ e. ne (cc)))) ∙ over_zero _)
+      ∙ over_single n rs _ all.1 (λ l ne. others (r ∷ l) (λ e. ne (cc)))
 
   pub lists_once : (n k : ℕ) (rs : List ℕ) (f : List ℕ → T) → Listed n k rs → ((l : List ℕ) → (l ≡ rs → ⊥) → f l ≡ O.zero) → sum_over O (all_lists n k) f ≡ f rs
   lists_once n k rs f listed others = subst (λ j. sum_over O (all_lists n j) f ≡ f rs) listed.0 (over_single n rs f listed.1 others)

@@ -4,7 +4,7 @@ use mathlib.Core.Path.{fun_ext}
 use Rattle.algebra.specs.Semiring.{Ops, Laws, sum_to, sum_over, all_lists}
 use Rattle.algebra.specs.Tables.{Table, cell, table_ops}
 use Rattle.algebra.proofs.Sums.{sum_same, plus_cross}
-use Rattle.algebra.proofs.TableLaws.{cell-filled, at_plus}
+use Rattle.algebra.proofs.TableLaws.{cell-filled}
 use Rattle.algebra.proofs.Walks.{over_fronts}
 use Rattle.algebra.proofs.Lists.{over_zero}
 
@@ -36,5 +36,5 @@ module _ {V : Type 0} {O : Ops V} (L : Laws O) where
   pub cell_over : (n : ℕ) {X : Type 0} (xs : List X) (F : X → Table V n) (p q : ℕ) → p < n → q < n → cell O (sum_over (table_ops O n) xs F) p q ≡ sum_over O xs (λ x. cell O (F x) p q)
   cell_over n [] F p q hp hq = cell-filled O n (λ i j. O.zero) p q hp hq
   cell_over n (x ∷ xs) F p q hp hq =
-      at_plus L n (F x) (sum_over (table_ops O n) xs F) p q hp hq
+      cell-filled O n _ p q hp hq
       ∙ ap (O.plus (cell O (F x) p q)) (cell_over n xs F p q hp hq)

@@ -1,18 +1,17 @@
 -- The square tables over a semiring are a semiring.
-use Rattle.std.proofs.Common.{◌≡◌, ℕ, zero, suc, ◌+◌, ◌*◌, ◌/◌, ◌%◌, ◌<◌, cond, eqb, length, get_or, sym, refl, ap, ◌∙◌, subst, ap₂, mod-lt, div-lt_iff_lt-mul, div-add-mod', zero-add, arith, ext_get_or}
+use Rattle.std.proofs.Common.{◌≡◌, ℕ, zero, suc, ◌+◌, ◌*◌, ◌/◌, ◌%◌, ◌<◌, if◌then◌else◌, ◌==◌, length, get_or, sym, refl, ap, ◌∙◌, subst, ap₂, mod-lt, div-lt_iff_lt-mul, div-add-mod', zero-add, arith, ext_get_or, inl, inr}
 use mathlib.Core.HLevel.{is_prop→PathP}
 use native.Mathlib.Nat.{ℕ_set}
-use native.Mathlib.Decide.{ℕ_discrete}
 use lib.Arith.{digits_div, digits_mod, digits_lt}
 use Rattle.std.proofs.lemmas.List.FromFn.{get_or-map-range_with_len}
-use Rattle.std.proofs.lemmas.Bool.{eq-eqb, ne_eqb}
+use Rattle.std.proofs.lemmas.Bool.{cases_eq, eq-eqb, ne_eqb}
 use Rattle.algebra.specs.Semiring.{Ops, Laws, sum_to}
-use Rattle.algebra.specs.Tables.{Table, cell, filled, table_zero, table_one, table_plus, table_times, table_ops}
-use Rattle.algebra.proofs.Sums.{sum_below, sum_same, sum_zero, times_sum, sum_times, sum_swap, sum_plus, zero_plus}
+use Rattle.algebra.specs.Tables.{Table, cell, filled, table_one, table_times, table_ops}
+use Rattle.algebra.proofs.Sums.{sum_below, sum_zero, times_sum, sum_times, sum_swap, sum_plus, zero_plus}
 
 -- each index of n rows of n entries is that of a row and a column
 index_ind : (n : ℕ) (F : ℕ → Type 0) → ((p q : ℕ) → p < n → q < n → F (p * n + q)) → (i : ℕ) → i < n * n → F i
-index_ind zero F here i h = let none : ⊥ = omega arith in absurd none
+index_ind zero F here i h = absurd (omega arith)
 index_ind (suc n) F here i h =
     let some : 0 < suc n = omega arith in
     subst F (div-add-mod' i (suc n)) (here (i / suc n) (i % suc n) ((div-lt_iff_lt-mul some).1 h) (mod-lt i some))
@@ -40,103 +39,45 @@ module _ {V : Type 0} (O : Ops V) where
 module _ {V : Type 0} {O : Ops V} (S : Laws O) where
   -- a sum with one summand that is not zero
   pub sum_single : (n p : ℕ) (f : ℕ → V) → p < n → ((i : ℕ) → i < n → (i ≡ p → ⊥) → f i ≡ O.zero) → sum_to O n f ≡ f p
-  sum_single zero p f h others = let none : ⊥ = omega arith in absurd none
-  sum_single (suc n) p f h others = go (ℕ_discrete p n) (λ below. sum_single n p f below (λ i hi. others i (omega arith)))
-    where
-      go : Dec (p ≡ n) → (p < n → sum_to O n f ≡ f p) → O.plus (sum_to O n f) (f n) ≡ f p
-      go (yes e) before =
-          ap (λ x. O.plus x (f n)) (sum_below S n f (λ i. O.zero) (λ i hi. others i (omega arith) (λ same. omega arith)) ∙ sum_zero S n)
-          ∙ zero_plus S (f n) ∙ ap f (sym e)
-      go (no ne) before =
-          ap₂ O.plus (before (omega arith)) (others n (omega arith) (λ same. ne (sym same))) ∙ S.plus_zero (f p)
+  sum_single zero p f h others = absurd (omega arith)
+  sum_single (suc n) p f h others = elim (cases_eq p n) [
+    | inl e ↦ ap₂ O.plus (sum_below S n f (λ i. O.zero) (λ i hi. others i (omega arith) (λ same. omega arith)) ∙ sum_zero S n) (ap f (sym e)) ∙ zero_plus S (f p)
+    | inr ne ↦ ap₂ O.plus (sum_single n p f (omega arith) (λ i hi. others i (omega arith))) (others n (omega arith) (λ same. ne (sym same))) ∙ S.plus_zero (f p)
+  ]
 
   module _ (n : ℕ) where
-    pub at_one : (p q : ℕ) → p < n → q < n → cell O (table_one O n) p q ≡ cond (eqb p q) O.one O.zero
-    at_one p q hp hq = cell-filled O n (λ i j. cond (eqb i j) O.one O.zero) p q hp hq
+    -- a product with a filled table, on the right and on the left
+    times_filled : (A : Table V n) (f : ℕ → ℕ → V) (p q : ℕ) → p < n → q < n → cell O (table_times O A (filled O n f)) p q ≡ sum_to O n (λ r. O.times (cell O A p r) (f r q))
+    times_filled A f p q hp hq = cell-filled O n _ p q hp hq ∙ sum_below S n _ _ (λ r hr. ap (O.times (cell O A p r)) (cell-filled O n f r q hr hq))
 
-    pub at_plus : (A B : Table V n) (p q : ℕ) → p < n → q < n → cell O (table_plus O A B) p q ≡ O.plus (cell O A p q) (cell O B p q)
-    at_plus A B p q hp hq = cell-filled O n (λ i j. O.plus (cell O A i j) (cell O B i j)) p q hp hq
+    filled_times : (f : ℕ → ℕ → V) (B : Table V n) (p q : ℕ) → p < n → q < n → cell O (table_times O (filled O n f) B) p q ≡ sum_to O n (λ r. O.times (f p r) (cell O B r q))
+    filled_times f B p q hp hq = cell-filled O n _ p q hp hq ∙ sum_below S n _ _ (λ r hr. ap (λ x. O.times x (cell O B r q)) (cell-filled O n f p r hp hr))
 
-    pub at_times : (A B : Table V n) (p q : ℕ) → p < n → q < n → cell O (table_times O A B) p q ≡ sum_to O n (λ r. O.times (cell O A p r) (cell O B r q))
-    at_times A B p q hp hq = cell-filled O n (λ i j. sum_to O n (λ r. O.times (cell O A i r) (cell O B r j))) p q hp hq
+    -- a sum that picks one summand by a row of the identity, and by a column
+    pub one_in_row : (p : ℕ) (f : ℕ → V) → p < n → sum_to O n (λ r. O.times (if p == r then O.one else O.zero) (f r)) ≡ f p
+    one_in_row p f hp =
+        sum_single n p _ hp (λ r hr ne. ap (λ b. O.times (if b then O.one else O.zero) (f r)) (ne_eqb p r (λ same. ne (sym same))) ∙ S.zero_times _)
+        ∙ ap (λ b. O.times (if b then O.one else O.zero) (f p)) (eq-eqb p p refl) ∙ S.one_times (f p)
 
-    pub table_plus_assoc : (A B C : Table V n) → table_plus O (table_plus O A B) C ≡ table_plus O A (table_plus O B C)
-    table_plus_assoc A B C = table_same O _ _ (λ p q hp hq. simp (cell-filled, S.plus_assoc))
-
-    pub table_plus_comm : (A B : Table V n) → table_plus O A B ≡ table_plus O B A
-    table_plus_comm A B = table_same O _ _ (λ p q hp hq. at_plus A B p q hp hq ∙ S.plus_comm _ _ ∙ sym (at_plus B A p q hp hq))
-
-    pub table_plus_zero : (A : Table V n) → table_plus O A (table_zero O n) ≡ A
-    table_plus_zero A = table_same O _ _ (λ p q hp hq. simp (cell-filled, S.plus_zero))
-
-    pub table_times_assoc : (A B C : Table V n) → table_times O (table_times O A B) C ≡ table_times O A (table_times O B C)
-    table_times_assoc A B C = table_same O _ _ (λ p q hp hq.
-        at_times (table_times O A B) C p q hp hq
-        ∙ sum_below S n _ (λ r. sum_to O n (λ s. O.times (O.times (cell O A p s) (cell O B s r)) (cell O C r q)))
-        (λ r hr. ap (λ x. O.times x (cell O C r q)) (at_times A B p r hp hr) ∙ sum_times S n (λ s. O.times (cell O A p s) (cell O B s r)) (cell O C r q))
-        ∙ sum_swap S n n (λ r s. O.times (O.times (cell O A p s) (cell O B s r)) (cell O C r q))
-        ∙ sum_below S n _ (λ s. O.times (cell O A p s) (cell O (table_times O B C) s q))
-        (λ s hs. sum_same S n (λ r. S.times_assoc _ _ _)
-        ∙ sym (times_sum S n (cell O A p s) (λ r. O.times (cell O B s r) (cell O C r q)))
-        ∙ ap (O.times (cell O A p s)) (sym (at_times B C s q hs hq)))
-        ∙ sym (at_times A (table_times O B C) p q hp hq))
-
-    pub table_one_times : (A : Table V n) → table_times O (table_one O n) A ≡ A
-    table_one_times A = table_same O _ _ (λ p q hp hq.
-        at_times (table_one O n) A p q hp hq
-        ∙ sum_single n p _ hp (λ r hr ne. ap (λ x. O.times x (cell O A r q)) (at_one p r hp hr ∙ ap (λ b. cond b O.one O.zero) (ne_eqb p r (λ same. ne (sym same)))) ∙ S.zero_times _)
-        ∙ ap (λ x. O.times x (cell O A p q)) (at_one p p hp hp ∙ ap (λ b. cond b O.one O.zero) (eq-eqb p p refl))
-        ∙ S.one_times _)
+    one_in_column : (q : ℕ) (f : ℕ → V) → q < n → sum_to O n (λ r. O.times (f r) (if r == q then O.one else O.zero)) ≡ f q
+    one_in_column q f hq =
+        sum_single n q _ hq (λ r hr ne. ap (λ b. O.times (f r) (if b then O.one else O.zero)) (ne_eqb r q ne) ∙ S.times_zero _)
+        ∙ ap (λ b. O.times (f q) (if b then O.one else O.zero)) (eq-eqb q q refl) ∙ S.times_one (f q)
 
     pub table_times_one : (A : Table V n) → table_times O A (table_one O n) ≡ A
-    table_times_one A = table_same O _ _ (λ p q hp hq.
-        at_times A (table_one O n) p q hp hq
-        ∙ sum_single n q _ hq (λ r hr ne. ap (O.times (cell O A p r)) (at_one r q hr hq ∙ ap (λ b. cond b O.one O.zero) (ne_eqb r q ne)) ∙ S.times_zero _)
-        ∙ ap (O.times (cell O A p q)) (at_one q q hq hq ∙ ap (λ b. cond b O.one O.zero) (eq-eqb q q refl))
-        ∙ S.times_one _)
-
-    pub table_times_plus : (A B C : Table V n) → table_times O A (table_plus O B C) ≡ table_plus O (table_times O A B) (table_times O A C)
-    table_times_plus A B C = table_same O _ _ (λ p q hp hq.
-        at_times A (table_plus O B C) p q hp hq
-        ∙ sum_below S n _ (λ r. O.plus (O.times (cell O A p r) (cell O B r q)) (O.times (cell O A p r) (cell O C r q)))
-        (λ r hr. ap (O.times (cell O A p r)) (at_plus B C r q hr hq) ∙ S.times_plus _ _ _)
-        ∙ sum_plus S n (λ r. O.times (cell O A p r) (cell O B r q)) (λ r. O.times (cell O A p r) (cell O C r q))
-        ∙ sym (ap₂ O.plus (at_times A B p q hp hq) (at_times A C p q hp hq))
-        ∙ sym (at_plus (table_times O A B) (table_times O A C) p q hp hq))
-
-    pub table_plus_times : (A B C : Table V n) → table_times O (table_plus O A B) C ≡ table_plus O (table_times O A C) (table_times O B C)
-    table_plus_times A B C = table_same O _ _ (λ p q hp hq.
-        at_times (table_plus O A B) C p q hp hq
-        ∙ sum_below S n _ (λ r. O.plus (O.times (cell O A p r) (cell O C r q)) (O.times (cell O B p r) (cell O C r q)))
-        (λ r hr. ap (λ x. O.times x (cell O C r q)) (at_plus A B p r hp hr) ∙ S.plus_times _ _ _)
-        ∙ sum_plus S n (λ r. O.times (cell O A p r) (cell O C r q)) (λ r. O.times (cell O B p r) (cell O C r q))
-        ∙ sym (ap₂ O.plus (at_times A C p q hp hq) (at_times B C p q hp hq))
-        ∙ sym (at_plus (table_times O A C) (table_times O B C) p q hp hq))
-
-    pub table_zero_times : (A : Table V n) → table_times O (table_zero O n) A ≡ table_zero O n
-    table_zero_times A = table_same O _ _ (λ p q hp hq.
-        at_times (table_zero O n) A p q hp hq
-        ∙ sum_below S n _ (λ r. O.zero) (λ r hr. ap (λ x. O.times x (cell O A r q)) (cell-filled O n (λ i j. O.zero) p r hp hr) ∙ S.zero_times _)
-        ∙ sum_zero S n
-        ∙ sym (cell-filled O n (λ i j. O.zero) p q hp hq))
-
-    pub table_times_zero : (A : Table V n) → table_times O A (table_zero O n) ≡ table_zero O n
-    table_times_zero A = table_same O _ _ (λ p q hp hq.
-        at_times A (table_zero O n) p q hp hq
-        ∙ sum_below S n _ (λ r. O.zero) (λ r hr. ap (O.times (cell O A p r)) (cell-filled O n (λ i j. O.zero) r q hr hq) ∙ S.times_zero _)
-        ∙ sum_zero S n
-        ∙ sym (cell-filled O n (λ i j. O.zero) p q hp hq))
+    table_times_one A = table_same O _ _ (λ p q hp hq. times_filled A _ p q hp hq ∙ one_in_column q (cell O A p) hq)
 
     pub table_laws : Laws (table_ops O n)
     table_laws = record {
-      plus_assoc = table_plus_assoc;
-      plus_comm = table_plus_comm;
-      plus_zero = table_plus_zero;
-      times_assoc = table_times_assoc;
-      one_times = table_one_times;
+      plus_assoc = λ A B C. table_same O _ _ (λ p q hp hq. simp (cell-filled, S.plus_assoc));
+      plus_comm = λ A B. table_same O _ _ (λ p q hp hq. simp cell-filled (S.plus_comm _ _));
+      plus_zero = λ A. table_same O _ _ (λ p q hp hq. simp (cell-filled, S.plus_zero));
+      times_assoc = λ A B C. table_same O _ _ (λ p q hp hq.
+          filled_times _ C p q hp hq ∙ simp (sum_times S n, times_filled, times_sum S n, S.times_assoc) (sum_swap S n n _));
+      one_times = λ A. table_same O _ _ (λ p q hp hq. filled_times _ A p q hp hq ∙ one_in_row p (λ r. cell O A r q) hp);
       times_one = table_times_one;
-      times_plus = table_times_plus;
-      plus_times = table_plus_times;
-      zero_times = table_zero_times;
-      times_zero = table_times_zero;
+      times_plus = λ A B C. table_same O _ _ (λ p q hp hq. times_filled A _ p q hp hq ∙ simp (cell-filled, S.times_plus, sum_plus S n));
+      plus_times = λ A B C. table_same O _ _ (λ p q hp hq. filled_times _ C p q hp hq ∙ simp (cell-filled, S.plus_times, sum_plus S n));
+      zero_times = λ A. table_same O _ _ (λ p q hp hq. filled_times _ A p q hp hq ∙ simp (cell-filled, S.zero_times, sum_zero S n));
+      times_zero = λ A. table_same O _ _ (λ p q hp hq. times_filled A _ p q hp hq ∙ simp (cell-filled, S.times_zero, sum_zero S n));
     }

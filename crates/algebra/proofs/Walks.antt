@@ -3,7 +3,7 @@ use Rattle.std.proofs.Common.{◌≡◌, ℕ, zero, suc, ◌<◌, List, [], ◌�
 use Rattle.algebra.specs.Semiring.{Ops, Laws, sum_to, product, sum_over, fronts, all_lists}
 use Rattle.algebra.specs.Tables.{Table, cell, table_ops, walk}
 use Rattle.algebra.proofs.Sums.{sum_below, zero_plus}
-use Rattle.algebra.proofs.TableLaws.{at_times, table_times_one}
+use Rattle.algebra.proofs.TableLaws.{cell-filled, table_times_one}
 
 module _ {V : Type 0} {O : Ops V} (S : Laws O) where
   pub over_append : {X : Type 0} (xs ys : List X) (f : X → V) → sum_over O (xs ++ ys) f ≡ O.plus (sum_over O xs f) (sum_over O ys f)
@@ -25,7 +25,6 @@ module _ {V : Type 0} {O : Ops V} (S : Laws O) where
   pub walks : {n : ℕ} (A : Table V n) (As : List (Table V n)) (p q : ℕ) → p < n → q < n → cell O (product (table_ops O n) (A ∷ As)) p q ≡ sum_over O (all_lists n (length As)) (λ rs. walk O p A As rs q)
   walks {n} A [] p q hp hq = ap (λ B. cell O B p q) (table_times_one S n A) ∙ sym (S.plus_zero (cell O A p q))
   walks {n} A (B ∷ Bs) p q hp hq =
-      at_times S n A (product (table_ops O n) (B ∷ Bs)) p q hp hq
-      ∙ sum_below S n _ (λ r. sum_over O (all_lists n (length Bs)) (λ rs. O.times (cell O A p r) (walk O r B Bs rs q)))
-      (λ r hr. ap (O.times (cell O A p r)) (walks B Bs r q hr hq) ∙ times_over (cell O A p r) (all_lists n (length Bs)) (λ rs. walk O r B Bs rs q))
+      cell-filled O n _ p q hp hq
+      ∙ sum_below S n _ _ (λ r hr. ap (O.times (cell O A p r)) (walks B Bs r q hr hq) ∙ times_over (cell O A p r) (all_lists n (length Bs)) (λ rs. walk O r B Bs rs q))
       ∙ sym (over_fronts n (all_lists n (length Bs)) (λ rs. walk O p A (B ∷ Bs) rs q))

@@ -15,23 +15,19 @@ use Rattle.bureau.specs.Matrices.{field, matrices, matrix_number, matrix_with, m
 field_laws : Laws field
 field_laws = search rules
 
-entries : Matrix → List Bool
-entries x = x.a ∷ x.b ∷ x.c ∷ x.d ∷ []
-
 table : Matrix → Table Bool 2
-unfolding entries
-table x = record { entries = entries x; sized = refl }
+table x = record { entries = x.a ∷ x.b ∷ x.c ∷ x.d ∷ []; sized = refl }
 
 -- the matrix with these entries
 matrix : List Bool → Matrix
 matrix bs = record { a = slice_index_or bs 0 false; b = slice_index_or bs 1 false; c = slice_index_or bs 2 false; d = slice_index_or bs 3 false }
 
 table_embeds : (x y : Matrix) → table x ≡ table y → x ≡ y
-unfolding table entries matrix
+unfolding table matrix
 table_embeds x y e = ap (λ t. matrix t.entries) e
 
 pub matrix_laws : Laws matrices
-unfolding table entries filled
+unfolding table filled
 matrix_laws = embedded table table_embeds (record {
   zero_kept = table_path _ _ refl;
   one_kept = table_path _ _ refl;
@@ -40,11 +36,11 @@ matrix_laws = embedded table table_embeds (record {
 }) (table_laws field_laws 2)
 
 number_unique : (x y : Matrix) → matrix_number x ≡ matrix_number y → x ≡ y
-unfolding entries matrix
-number_unique x y e = ap matrix (sym (bits-number (entries x)) ∙ ap (bits 4) e ∙ bits-number (entries y))
+unfolding table matrix
+number_unique x y e = ap matrix (sym (bits-number (table x).entries) ∙ ap (bits 4) e ∙ bits-number (table y).entries)
 
 pub matrix_coded : Coded matrices.zero matrix_codes
-unfolding entries
+unfolding table
 matrix_coded =
     own_coded matrix_number 16 matrix_with number_unique (λ c below. number-bits 4 c below)
-    matrices.zero 200 1 (λ x. number_below (entries x)) refl (lit< tt) (lit≤ tt) (lit≤ tt) (lit≤ tt)
+    matrices.zero 200 1 (λ x. number_below (table x).entries) refl (lit< tt) (lit≤ tt) (lit≤ tt) (lit≤ tt)

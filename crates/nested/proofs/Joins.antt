@@ -1,9 +1,9 @@
 -- Joining is replaying the right summary's moves on the left; so it is associative, with the empty summary neutral.
-use Rattle.std.proofs.Common.{◌≡◌, ℕ, List, [], ◌∷◌, ◌++◌, sym, refl, ap, ◌∙◌, ap₂, append_assoc, append-nil}
+use Rattle.std.proofs.Common.{◌≡◌, ℕ, List, [], ◌∷◌, ◌++◌, sym, refl, ap, ◌∙◌, append_assoc, append-nil}
 use Rattle.algebra.specs.Semiring.{Ops, Laws}
 use Rattle.nested.specs.declared.token.Token.{Token}
-use Rattle.nested.specs.declared.token.Token.TheVariants.{Text, Mark, Opening, Closing}
-use Rattle.nested.specs.Summaries.{Transitions, Close, Open, Summary, close, opened, summary, empty, last_times, pair, pairing, join, of_token, extended, of_text}
+use Rattle.nested.specs.declared.token.Token.TheVariants.{Opening, Closing}
+use Rattle.nested.specs.Summaries.{Transitions, Close, Open, Summary, summary, empty, last_times, pair, pairing, join, of_token, extended, of_text}
 use Rattle.nested.specs.Moves.{Move, by, push, pop, close_moves, open_moves, moves, popped, step, replay, move}
 
 pub close_moves-append : {T : Type 0} (cs ds : List (Close T)) → close_moves (cs ++ ds) ≡ close_moves cs ++ close_moves ds
@@ -15,12 +15,6 @@ module _ {T : Type 0} (O : Ops T) (M : Transitions T) where
   replay-append [] rs L = refl
   replay-append (s ∷ ss) rs L = replay-append ss rs (step O M s L)
 
-  -- one open more on the right: a push, and its table
-  replay_open : (L : Summary T) (cs : List (Close T)) (m : T) (o : Open T) (os : List (Open T)) → replay O M (moves (summary cs m (o ∷ os))) L ≡ replay O M (push o.tag ∷ by o.after ∷ []) (replay O M (moves (summary cs m os)) L)
-  replay_open L cs m o os =
-      ap (λ ss. replay O M ss L) (sym (append_assoc (close_moves cs) (by m ∷ open_moves os) (push o.tag ∷ by o.after ∷ [])))
-      ∙ replay-append (moves (summary cs m os)) (push o.tag ∷ by o.after ∷ []) L
-
   pub extended_append : (L : Summary T) (u v : List Token) → extended O M L (u ++ v) ≡ extended O M (extended O M L u) v
   extended_append L [] v = refl
   extended_append L (t ∷ u) v = extended_append (join O M L (of_token O M t)) u v
@@ -29,28 +23,19 @@ module _ {T : Type 0} {O : Ops T} (S : Laws O) (M : Transitions T) where
   -- the moves of opens put them behind the others
   replay_opens : (os : List (Open T)) (L : Summary T) → replay O M (open_moves os) L ≡ summary L.closes L.middle (os ++ L.opens)
   replay_opens [] L = refl
-  replay_opens (o ∷ os) L =
-      replay-append O M (open_moves os) _ L
-      ∙ ap (replay O M (push o.tag ∷ by o.after ∷ [])) (replay_opens os L)
-      ∙ ap (λ x. summary L.closes L.middle (opened o.tag x ∷ (os ++ L.opens))) (S.one_times o.after)
+  replay_opens (o ∷ os) L = simp (replay-append O M, replay_opens os, S.one_times)
 
   -- and those of closes, where no open waits, put them behind the others
   replay_closes : (ds cs : List (Close T)) → replay O M (close_moves ds) (summary cs O.one []) ≡ summary (cs ++ ds) O.one []
   replay_closes [] cs = ap (λ x. summary x O.one []) (sym (append-nil cs))
-  replay_closes (d ∷ ds) cs =
-      replay_closes ds (cs ++ (close (O.times O.one d.before) d.tag ∷ []))
-      ∙ ap (λ x. summary x O.one []) (append_assoc cs _ ds ∙ ap (λ x. cs ++ (close x d.tag ∷ ds)) (S.one_times d.before))
+  replay_closes (d ∷ ds) cs = simp (replay_closes ds, append_assoc, S.one_times)
 
   replay_rest : (ds cs : List (Close T)) (n : T) (ps : List (Open T)) → replay O M (close_moves ds ++ (by n ∷ open_moves ps)) (summary cs O.one []) ≡ summary (cs ++ ds) n ps
-  replay_rest ds cs n ps =
-      replay-append O M (close_moves ds) _ _
-      ∙ ap (replay O M (by n ∷ open_moves ps)) (replay_closes ds cs)
-      ∙ replay_opens ps _
-      ∙ ap₂ (summary (cs ++ ds)) (S.one_times n) (append-nil ps)
+  replay_rest ds cs n ps = simp (replay-append O M, replay_closes, replay_opens, S.one_times, append-nil)
 
   pairing_replay : (cs : List (Close T)) (m : T) (os : List (Open T)) (ds : List (Close T)) (n : T) (ps : List (Open T)) → pairing O M cs m os ds n ps ≡ replay O M (close_moves ds ++ (by n ∷ open_moves ps)) (summary cs m os)
   pairing_replay cs m os [] n ps = sym (replay_opens ps (last_times O cs m os n))
-  pairing_replay cs m [] (d ∷ ds) n ps = ap (λ x. summary x n ps) (sym (append_assoc cs _ ds)) ∙ sym (replay_rest ds _ n ps)
+  pairing_replay cs m [] (d ∷ ds) n ps = simp (replay_rest ds, append_assoc)
   pairing_replay cs m (o ∷ os) (d ∷ ds) n ps =
       let L = last_times O cs m os (pair O M o.tag (O.times o.after d.before) d.tag) in
       pairing_replay L.closes L.middle L.opens ds n ps
@@ -60,18 +45,16 @@ module _ {T : Type 0} {O : Ops T} (S : Laws O) (M : Transitions T) where
 
   -- two tables in a row are their product, and one is none
   by_by : (x y : T) (L : Summary T) → step O M (by y) (step O M (by x) L) ≡ step O M (by (O.times x y)) L
-  by_by x y L = go L.opens
-    where
-      go : (os : List (Open T)) → step O M (by y) (last_times O L.closes L.middle os x) ≡ last_times O L.closes L.middle os (O.times x y)
-      go [] = ap (λ m. summary L.closes m []) (S.times_assoc _ _ _)
-      go (o ∷ os) = ap (λ z. summary L.closes L.middle (opened o.tag z ∷ os)) (S.times_assoc _ _ _)
+  by_by x y L = elim (L.opens) as (λ os. step O M (by y) (last_times O L.closes L.middle os x) ≡ last_times O L.closes L.middle os (O.times x y)) [
+    | [] ↦ simp S.times_assoc
+    | o ∷ os ↦ simp S.times_assoc
+  ]
 
   pub by_one : (L : Summary T) → step O M (by O.one) L ≡ L
-  by_one L = go L.opens
-    where
-      go : (os : List (Open T)) → last_times O L.closes L.middle os O.one ≡ summary L.closes L.middle os
-      go [] = ap (λ m. summary L.closes m []) (S.times_one _)
-      go (o ∷ os) = ap (λ z. summary L.closes L.middle (opened o.tag z ∷ os)) (S.times_one _)
+  by_one L = elim (L.opens) as (λ os. last_times O L.closes L.middle os O.one ≡ summary L.closes L.middle os) [
+    | [] ↦ simp S.times_one
+    | o ∷ os ↦ simp S.times_one
+  ]
 
   pub join_empty : (L : Summary T) → join O M L (empty O) ≡ L
   join_empty L = join_replay L (empty O) ∙ by_one L
@@ -81,30 +64,16 @@ module _ {T : Type 0} {O : Ops T} (S : Laws O) (M : Transitions T) where
 
   -- the moves of a summary after one more move are its own moves and that one
   replay_by : (L : Summary T) (cs : List (Close T)) (m : T) (os : List (Open T)) (x : T) → replay O M (moves (last_times O cs m os x)) L ≡ step O M (by x) (replay O M (moves (summary cs m os)) L)
-  replay_by L cs m [] x =
-      replay-append O M (close_moves cs) (by (O.times m x) ∷ []) L
-      ∙ sym (by_by m x (replay O M (close_moves cs) L))
-      ∙ ap (step O M (by x)) (sym (replay-append O M (close_moves cs) (by m ∷ []) L))
-  replay_by L cs m (o ∷ os) x =
-      replay_open O M L cs m (opened o.tag (O.times o.after x)) os
-      ∙ sym (by_by o.after x (step O M (push o.tag) (replay O M (moves (summary cs m os)) L)))
-      ∙ ap (step O M (by x)) (sym (replay_open O M L cs m o os))
+  replay_by L cs m [] x = simp (replay-append O M, by_by)
+  replay_by L cs m (o ∷ os) x = simp (replay-append O M, by_by)
 
   replay_pop : (L : Summary T) (cs : List (Close T)) (m : T) (os : List (Open T)) (b : ℕ) → replay O M (moves (popped O M cs m os b)) L ≡ step O M (pop b) (replay O M (moves (summary cs m os)) L)
-  replay_pop L cs m [] b =
-      ap (λ ss. replay O M (ss ++ (by O.one ∷ [])) L) (close_moves-append cs (close m b ∷ []))
-      ∙ replay-append O M (close_moves cs ++ (by m ∷ pop b ∷ [])) (by O.one ∷ []) L
-      ∙ by_one _
-      ∙ replay-append O M (close_moves cs) (by m ∷ pop b ∷ []) L
-      ∙ ap (step O M (pop b)) (sym (replay-append O M (close_moves cs) (by m ∷ []) L))
-  replay_pop L cs m (o ∷ os) b =
-      replay_by L cs m os (pair O M o.tag o.after b)
-      ∙ ap (λ y. step O M (by (pair O M o.tag y b)) (replay O M (moves (summary cs m os)) L)) (sym (S.one_times o.after))
-      ∙ ap (step O M (pop b)) (sym (replay_open O M L cs m o os))
+  replay_pop L cs m [] b = simp (close_moves-append, replay-append O M, by_one)
+  replay_pop L cs m (o ∷ os) b = replay_by L cs m os (pair O M o.tag o.after b) ∙ simp (replay-append O M, S.one_times)
 
   replay_step : (L R : Summary T) (s : Move T) → replay O M (moves (step O M s R)) L ≡ step O M s (replay O M (moves R) L)
   replay_step L R (by x) = replay_by L R.closes R.middle R.opens x
-  replay_step L R (push a) = replay_open O M L R.closes R.middle (opened a O.one) R.opens ∙ by_one _
+  replay_step L R (push a) = simp (replay-append O M, by_one)
   replay_step L R (pop b) = replay_pop L R.closes R.middle R.opens b
 
   replay_replay : (L R : Summary T) (ss : List (Move T)) → replay O M (moves (replay O M ss R)) L ≡ replay O M ss (replay O M (moves R) L)
@@ -113,11 +82,7 @@ module _ {T : Type 0} {O : Ops T} (S : Laws O) (M : Transitions T) where
 
   pub join_assoc : (A B C : Summary T) → join O M (join O M A B) C ≡ join O M A (join O M B C)
   join_assoc A B C =
-      join_replay (join O M A B) C
-      ∙ ap (replay O M (moves C)) (join_replay A B)
-      ∙ sym (replay_replay A B (moves C))
-      ∙ ap (λ R. replay O M (moves R) A) (sym (join_replay B C))
-      ∙ sym (join_replay A (join O M B C))
+      rw (join_replay (join O M A B) C, join_replay A B, join_replay A (join O M B C), join_replay B C) (sym (replay_replay A B (moves C)))
 
   -- texts
   pub extended_join : (L : Summary T) (w : List Token) → extended O M L w ≡ join O M L (of_text O M w)
@@ -132,10 +97,9 @@ module _ {T : Type 0} {O : Ops T} (S : Laws O) (M : Transitions T) where
 
   -- joining with a token is one step
   pub join_token : (L : Summary T) (t : Token) → join O M L (of_token O M t) ≡ step O M (move O M t) L
-  join_token L (Text c) = join_replay L (of_token O M (Text c))
-  join_token L (Mark t) = join_replay L (of_token O M (Mark t))
   join_token L (Opening a) = join_replay L (of_token O M (Opening a)) ∙ by_one _ ∙ ap (step O M (push a)) (by_one L)
   join_token L (Closing b) = join_replay L (of_token O M (Closing b)) ∙ by_one _ ∙ ap (step O M (pop b)) (by_one L)
+  join_token L t = join_replay L (of_token O M t)
 
   pub summary_next : (u : List Token) (t : Token) → of_text O M (u ++ (t ∷ [])) ≡ step O M (move O M t) (of_text O M u)
   summary_next u t = extended_append O M (empty O) u (t ∷ []) ∙ join_token (of_text O M u) t

@@ -1,5 +1,5 @@
 -- The runs that a weight sums over: all runs on the text, and each once.
-use Rattle.std.proofs.Common.{◌≡◌, ℕ, suc, ◌⊎◌, List, [], ◌∷◌, map, length, sym, refl, ap, ◌∙◌, ap₂, inl, inr}
+use Rattle.std.proofs.Common.{◌≡◌, ℕ, suc, List, [], ◌∷◌, map, length, sym, refl, ap, ◌∙◌, ap₂, inl, inr}
 use mathlib.Core.List.Memᴰ
 use mathlib.Core.List.{Memᴰ}
 use Rattle.algebra.specs.Semiring.{Ops, Laws, sum_over, all_lists}
@@ -16,24 +16,19 @@ run qs ls = record { states = qs; letters = ls }
 
 in_runs : (qss lss : List (List ℕ)) (r : Run) → Memᴰ r.states qss → Memᴰ r.letters lss → Memᴰ r (runs_over qss lss)
 in_runs qss [] r q m = absurd (Memᴰ.not-nil m)
-in_runs qss (ls ∷ lss) r q m = go (Memᴰ.cases_cons m) (in_runs qss lss r q)
-  where
-    go : (r.letters ≡ ls) ⊎ Memᴰ r.letters lss → (Memᴰ r.letters lss → Memᴰ r (runs_over qss lss)) → Memᴰ r (runs_over qss (ls ∷ lss))
-    go (inl e) after = Memᴰ.append_left _ (Memᴰ.cast (ap (run r.states) e) (Memᴰ.map (λ qs. run qs ls) q))
-    go (inr m) after = Memᴰ.append_right (map (λ qs. run qs ls) qss) (after m)
+in_runs qss (ls ∷ lss) r q m = elim (Memᴰ.cases_cons m) [
+  | inl e ↦ Memᴰ.append_left _ (Memᴰ.cast (ap (run r.states) e) (Memᴰ.map (λ qs. run qs ls) q))
+  | inr after ↦ Memᴰ.append_right (map (λ qs. run qs ls) qss) (in_runs qss lss r q after)
+]
 
 of_runs : (qss lss : List (List ℕ)) (r : Run) → Memᴰ r (runs_over qss lss) → Memᴰ r.states qss × Memᴰ r.letters lss
 of_runs qss [] r m = absurd (Memᴰ.not-nil m)
-of_runs qss (ls ∷ lss) r m = go (Memᴰ.append_cases (map (λ qs. run qs ls) qss) m) (of_runs qss lss r)
-  where
-    Found : List (List ℕ) → Type 0
-    Found lss = Memᴰ r.states qss × Memᴰ r.letters lss
-
-    go : Memᴰ r (map (λ qs. run qs ls) qss) ⊎ Memᴰ r (runs_over qss lss) → (Memᴰ r (runs_over qss lss) → Found lss) → Found (ls ∷ lss)
-    go (inl m) after =
-        let f = Memᴰ.of_map (λ qs. run qs ls) qss m in
-        (Memᴰ.cast (sym (ap (λ s. s.states) f.2)) f.1, Memᴰ.head (sym (ap (λ s. s.letters) f.2)))
-    go (inr m) after = let f = after m in (f.0, Memᴰ.tail f.1)
+of_runs qss (ls ∷ lss) r m = elim (Memᴰ.append_cases (map (λ qs. run qs ls) qss) m) [
+  | inl here ↦
+      let f = Memᴰ.of_map (λ qs. run qs ls) qss here in
+      (Memᴰ.cast (sym (ap (λ s. s.states) f.2)) f.1, Memᴰ.head (sym (ap (λ s. s.letters) f.2)))
+  | inr after ↦ let f = of_runs qss lss r after in (f.0, Memᴰ.tail f.1)
+]
 
 module _ {V : Type 0} (S : Sheet V) (w : List Token) where
   pub run_listed : (r : Run) → IsRun S w r → Memᴰ r (all_runs S w)

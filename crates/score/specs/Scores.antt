@@ -10,27 +10,23 @@ use Rattle.score.specs.Score.{most, Points, capped, score_plus, score_times, sco
 pub same : {a b : Points} → a.number ≡ b.number → ◌≡◌ {A = Option Points} (Some a) (Some b)
 same e = ap Some (below_path e)
 
+-- where a score is none, both sides of a law compute to the same
 plus_assoc : (x y z : Option Points) → score_plus (score_plus x y) z ≡ score_plus x (score_plus y z)
-plus_assoc None y z = refl
-plus_assoc (Some a) None z = refl
-plus_assoc (Some a) (Some b) None = refl
 plus_assoc (Some a) (Some b) (Some c) = same (omega arith)
+plus_assoc x y z = refl
 
 plus_comm : (x y : Option Points) → score_plus x y ≡ score_plus y x
-plus_comm None None = refl
-plus_comm None (Some b) = refl
-plus_comm (Some a) None = refl
 plus_comm (Some a) (Some b) = same (omega arith)
+plus_comm None (Some b) = refl
+plus_comm x y = refl
 
 plus_zero : (x : Option Points) → score_plus x None ≡ x
 plus_zero None = refl
 plus_zero (Some a) = refl
 
 times_assoc : (x y z : Option Points) → score_times (score_times x y) z ≡ score_times x (score_times y z)
-times_assoc None y z = refl
-times_assoc (Some a) None z = refl
-times_assoc (Some a) (Some b) None = refl
 times_assoc (Some a) (Some b) (Some c) = same (omega arith)
+times_assoc x y z = refl
 
 one_times : (x : Option Points) → score_times (Some (capped 0)) x ≡ x
 one_times None = refl
@@ -41,17 +37,13 @@ times_one None = refl
 times_one (Some a) = same (omega (arith, a.within))
 
 times_plus : (x y z : Option Points) → score_times x (score_plus y z) ≡ score_plus (score_times x y) (score_times x z)
-times_plus None y z = refl
-times_plus (Some a) None z = refl
-times_plus (Some a) (Some b) None = refl
 times_plus (Some a) (Some b) (Some c) = same (omega arith)
+times_plus x y z = refl
 
 plus_times : (x y z : Option Points) → score_times (score_plus x y) z ≡ score_plus (score_times x z) (score_times y z)
-plus_times None y z = refl
-plus_times (Some a) None None = refl
-plus_times (Some a) None (Some c) = refl
-plus_times (Some a) (Some b) None = refl
 plus_times (Some a) (Some b) (Some c) = same (omega arith)
+plus_times (Some a) None (Some c) = refl
+plus_times x y z = refl
 
 times_zero : (x : Option Points) → score_times x None ≡ None
 times_zero None = refl
@@ -77,19 +69,19 @@ score_of_number a c (no f) e = absurd (f (omega (arith, a.within)))
 
 none_but_zero : (v : Option Points) → score_code v ≡ None → v ≡ None
 none_but_zero None e = refl
-none_but_zero (Some a) e = let z : ◌≡◌ {A = ℕ} 0 1 = cc in absurd (omega arith)
+none_but_zero (Some a) e = cc
 
 code_fits : (v : Option Points) (c : ℕ) → score_code v ≡ Some c → c < 4294967296
-code_fits None c e = let z : ◌≡◌ {A = ℕ} 0 1 = cc in absurd (omega arith)
+code_fits None c e = absurd (cc)
 code_fits (Some a) c e = let z : a.number ≡ c = cc in omega (arith, z, a.within)
 
 value_of_code : (v : Option Points) (c : ℕ) → score_code v ≡ Some c → score_of c (dec_lt c (most + 1)) ≡ Ok v
-value_of_code None c e = let z : ◌≡◌ {A = ℕ} 0 1 = cc in absurd (omega arith)
+value_of_code None c e = cc
 value_of_code (Some a) c e = score_of_number a c (dec_lt c (most + 1)) cc
 
 code_of_value : (c : ℕ) (d : Dec (c < most + 1)) (v : Option Points) → score_of c d ≡ Ok v → score_code v ≡ Some c
 code_of_value c (yes h) v e = let z : Some (record { number = c; within = h }) ≡ v = cc in ap score_code (sym z)
-code_of_value c (no f) v e = let z : ◌≡◌ {A = ℕ} 0 1 = cc in absurd (omega arith)
+code_of_value c (no f) v e = cc
 
 pub score_coded : Coded None score_codes
 score_coded = record {

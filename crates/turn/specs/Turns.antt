@@ -1,7 +1,8 @@
 -- The relations are a semiring, since they are the 3 by 3 tables of verdicts; and their codes are one to one.
 use Rattle.std.specs.Prelude.{◌≡◌, ℕ, ◌*◌, ◌/◌, Bool, true, false, [], ◌∷◌, bit_and, bit_or, refl}
 use Rattle.std.proofs.Common.{sym, ap, ap₂, ◌∙◌, arith, lit<, lit≤}
-use Rattle.std.proofs.lemmas.Nat.{shr-shr, and_comm}
+use Rattle.std.proofs.lemmas.Nat.{and_comm}
+use native.Mathlib.Nat.{div-div-eq-div-mul}
 use Rattle.algebra.specs.Semiring.{Laws}
 use Rattle.algebra.specs.Codes.{Coded}
 use Rattle.algebra.specs.Bits.{bits, number}
@@ -38,14 +39,7 @@ turn_coded = below_coded turns.zero 4 2 refl (lit< tt) (lit≤ tt) (lit≤ tt) (
 -- a row of three bits, at each place of a column of three bits
 spread : (p q r a b c : Bool) → number (p ∷ false ∷ false ∷ q ∷ false ∷ false ∷ r ∷ []) * number (a ∷ b ∷ c ∷ [])
     ≡ number (and p a ∷ and p b ∷ and p c ∷ and q a ∷ and q b ∷ and q c ∷ and r a ∷ and r b ∷ and r c ∷ [])
-spread true true true a b c = omega arith
-spread true true false a b c = omega arith
-spread true false true a b c = omega arith
-spread true false false a b c = omega arith
-spread false true true a b c = omega arith
-spread false true false a b c = omega arith
-spread false false true a b c = omega arith
-spread false false false a b c = omega arith
+spread p q r a b c = grind arith
 
 pub crossing : (column row : ℕ) → bit_and column 73 * bit_and row 7 ≡ number (crossed (bits 7 column) (bits 3 row))
 crossing column row =
@@ -59,12 +53,6 @@ union x y =
     ap₂ bit_or (sym (number-bits 9 x.number x.within)) (sym (number-bits 9 y.number y.within))
     ∙ or_number (bits 9 x.number) (bits 9 y.number)
 
-fourth : (n : ℕ) → n / 4 ≡ n / 2 / 2
-fourth n = sym (shr-shr n 1 1)
-
-eighth : (n : ℕ) → n / 8 ≡ n / 2 / 2 / 2
-eighth n = sym (shr-shr n 2 1) ∙ ap (λ m. m / 2) (fourth n)
-
 -- the pairs by way of 0, of 1 and of 2
 pub composition : (x y : Relation) (r s t : ℕ)
     → r ≡ number (crossed (bits 7 x.number) (bits 3 y.number))
@@ -72,12 +60,7 @@ pub composition : (x y : Relation) (r s t : ℕ)
     → t ≡ number (crossed (bits 7 (x.number / 4)) (bits 3 (y.number / 64)))
     → bit_or (bit_or r s) t ≡ (turns.times x y).number
 composition x y r s t by_0 by_1 by_2 =
-    let a = x.number in
-    let b = y.number in
-    let c₀ = crossed (bits 7 a) (bits 3 b) in
-    let c₁ = crossed (bits 7 (a / 2)) (bits 3 (b / 2 / 2 / 2)) in
-    let c₂ = crossed (bits 7 (a / 2 / 2)) (bits 3 (b / 2 / 2 / 2 / 2 / 2 / 2)) in
-    let at_1 : s ≡ number c₁ = by_1 ∙ ap (λ n. number (crossed (bits 7 (a / 2)) (bits 3 n))) (eighth b) in
-    let at_2 : t ≡ number c₂ =
-    by_2 ∙ ap₂ (λ m n. number (crossed (bits 7 m) (bits 3 n))) (fourth a) (sym (shr-shr b 3 3) ∙ eighth (b / 8) ∙ ap (λ n. n / 2 / 2 / 2) (eighth b)) in
-    ap₂ bit_or (ap₂ bit_or by_0 at_1 ∙ or_number c₀ c₁) at_2 ∙ or_number (ors c₀ c₁) c₂
+    let c₀ = crossed (bits 7 x.number) (bits 3 y.number) in
+    let c₁ = crossed (bits 7 (x.number / 2)) (bits 3 (y.number / 8)) in
+    let c₂ = crossed (bits 7 (x.number / 4)) (bits 3 (y.number / 64)) in
+    ap₂ bit_or (ap₂ bit_or by_0 by_1 ∙ or_number c₀ c₁) by_2 ∙ or_number (ors c₀ c₁) c₂ ∙ simp div-div-eq-div-mul
