@@ -31,9 +31,13 @@ impl Semiring for Score {
         Some(Below { number: 0 })
     }
 
-    // none is the least
+    // `a.max(b)` is the same, and takes twice the time in a sum of products.
     fn plus(a: Option<Points>, b: Option<Points>) -> Option<Points> {
-        a.max(b)
+        match (a, b) {
+            (Some(x), Some(y)) => Some(x.max(y)),
+            (None, _) => b,
+            (_, None) => a,
+        }
     }
 
     fn times(a: Option<Points>, b: Option<Points>) -> Option<Points> {

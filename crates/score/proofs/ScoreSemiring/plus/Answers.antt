@@ -1,5 +1,5 @@
-use Rattle.score.proofs.Orders.{max_plus}
+use Rattle.score.proofs.Orders.{max_points}
 use Rattle.score.proofs.ScoreSemiring.plus.Goals as goal
 
-pub returns : goal.returns
-returns c = cc (max_plus c.args.a c.args.b)
+pub returns-in-Some-Some : goal.returns-in-Some-Some
+returns-in-Some-Some c = cc (max_points c.in-Some-Some.x c.in-Some-Some.y)
