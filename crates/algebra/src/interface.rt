@@ -60,8 +60,5 @@ pub trait Algebra: Semiring {
 pub fn weight<A: Algebra>(code: Option<u32>) -> Result<A::Value, NoValue>
     ensures { result ≡ weight_of A.ops.zero A.codes code }
 {
-    match code {
-        Some(code) => A::value(code),
-        None => Ok(A::zero()),
-    }
+    code.map_or(Ok(A::zero()), |code| A::value(code))
 }

@@ -7,10 +7,12 @@ pub fn tables_are_a_semiring<S: Semiring>(n: usize)
     ensures { TablesAreASemiring S.ops n }
 {}
 
+#[tactic(auto, using(crate::proofs::Walks::walks))]
 pub fn products_sum_walks<S: Semiring>(n: usize)
     ensures { ProductsSumWalks S.ops n }
 {}
 
+#[tactic(auto, using(crate::proofs::Lists::of_all_lists, crate::proofs::Lists::in_lists))]
 pub fn lists_are_all()
     ensures { ListsAreAll }
 {}

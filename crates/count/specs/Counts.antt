@@ -9,21 +9,21 @@ use Rattle.algebra.proofs.BelowLaws.{below_path, below_coded}
 use Rattle.count.specs.Count.{modulus, reduced, counts, count_codes}
 
 -- equal numbers have equal residues
-modulo : {a b : ℕ} → a ≡ b → a % modulus ≡ b % modulus
-modulo e = ap (λ (n : ℕ). n % modulus) e
+modulo : (m : ℕ) {a b : ℕ} → a ≡ b → a % m ≡ b % m
+modulo m e = ap (λ (n : ℕ). n % m) e
 
 pub count_laws : Laws counts
 count_laws = record {
-  plus_assoc = λ x y z. below_path (mod-add-mod _ _ _ ∙ modulo (add_assoc _ _ _) ∙ sym (add-mod-mod x.number _ _));
-  plus_comm = λ x y. below_path (modulo (add_comm _ _));
-  plus_zero = λ x. below_path (modulo (add-zero _) ∙ mod-eq_of_lt x.within);
-  times_assoc = λ x y z. below_path (mul-mod_first _ _ _ ∙ modulo (mul_assoc _ _ _) ∙ sym (mul-mod_second x.number _ _));
-  one_times = λ x. below_path (modulo (one-mul _) ∙ mod-eq_of_lt x.within);
-  times_one = λ x. below_path (modulo (mul-one _) ∙ mod-eq_of_lt x.within);
-  times_plus = λ x y z. below_path (mul-mod_second _ _ _ ∙ modulo (mul-add _ _ _) ∙ add-mod _ _ _);
-  plus_times = λ x y z. below_path (mul-mod_first _ _ _ ∙ modulo (add-mul _ _ _) ∙ add-mod _ _ _);
-  zero_times = λ x. below_path (modulo (zero-mul _));
-  times_zero = λ x. below_path (modulo (mul-zero _));
+  plus_assoc = λ x y z. below_path (mod-add-mod _ _ _ ∙ modulo modulus (add_assoc _ _ _) ∙ sym (add-mod-mod x.number _ _));
+  plus_comm = λ x y. below_path (modulo modulus (add_comm _ _));
+  plus_zero = λ x. below_path (modulo modulus (add-zero _) ∙ mod-eq_of_lt x.within);
+  times_assoc = λ x y z. below_path (mul-mod_first _ _ _ ∙ modulo modulus (mul_assoc _ _ _) ∙ sym (mul-mod_second x.number _ _));
+  one_times = λ x. below_path (modulo modulus (one-mul _) ∙ mod-eq_of_lt x.within);
+  times_one = λ x. below_path (modulo modulus (mul-one _) ∙ mod-eq_of_lt x.within);
+  times_plus = λ x y z. below_path (mul-mod_second _ _ _ ∙ modulo modulus (mul-add _ _ _) ∙ add-mod _ _ _);
+  plus_times = λ x y z. below_path (mul-mod_first _ _ _ ∙ modulo modulus (add-mul _ _ _) ∙ add-mod _ _ _);
+  zero_times = λ x. below_path (modulo modulus (zero-mul _));
+  times_zero = λ x. below_path (modulo modulus (mul-zero _));
 }
 
 pub count_coded : Coded (reduced 0) count_codes

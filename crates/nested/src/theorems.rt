@@ -9,14 +9,17 @@ pub trait Relation {
     ghost edges: { End → End → Type 0 };
 }
 
+#[tactic(auto, using(crate::proofs::Matchings::text_matching))]
 pub fn text_has_a_matching()
     ensures { TextHasAMatching }
 {}
 
+#[tactic(auto, using(crate::proofs::Matchings::edge_of, crate::proofs::Matchings::of_edge))]
 pub fn matching_is_unique<R: Relation>()
     ensures { MatchingIsUnique R.edges }
 {}
 
+#[tactic(auto, using(crate::proofs::Joins::join_assoc, algebra::proofs::TableLaws::table_laws))]
 pub fn join_is_associative<S: Semiring>()
     ensures { JoinIsAssociative S.ops }
 {}
@@ -25,6 +28,7 @@ pub fn empty_is_neutral<S: Semiring>()
     ensures { EmptyIsNeutral S.ops }
 {}
 
+#[tactic(auto, using(crate::proofs::Joins::join_replay, algebra::proofs::TableLaws::table_laws))]
 pub fn join_replays<S: Semiring>()
     ensures { JoinReplays S.ops }
 {}
@@ -37,10 +41,12 @@ pub fn tokens_move<S: Semiring>()
     ensures { TokensMove S.ops }
 {}
 
+#[tactic(auto, using(crate::proofs::Weighing::weight_value))]
 pub fn weight_is_the_value<S: Semiring>()
     ensures { WeightIsTheValue S.ops }
 {}
 
+#[tactic(auto, using(crate::proofs::RunLists::listed_run, crate::proofs::RunLists::run_listed))]
 pub fn runs_are_all<S: Semiring>()
     ensures { RunsAreAll S.ops }
 {}
@@ -53,6 +59,7 @@ pub fn pending_tags_are_kept<S: Semiring>()
     ensures { PendingTagsAreKept S.ops }
 {}
 
+#[tactic(auto, using(crate::proofs::PendingTags::join_closes, crate::proofs::PendingTags::join_opens))]
 pub fn join_counts<S: Semiring>()
     ensures { JoinCounts S.ops }
 {}

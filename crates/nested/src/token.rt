@@ -31,6 +31,7 @@ impl From<Class> for u8 {
 }
 
 // A byte of text, by its class; or a tag, by its number on the sheet. A mark stands alone.
+// The number is the place of the tag's name in the sheet's list, which a type of its own would only wrap.
 #[derive(Clone, Copy, Debug, PartialEq, Eq)]
 pub enum Token {
     Text(Class),
