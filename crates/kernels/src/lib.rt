@@ -20,16 +20,14 @@ pub fn dot<S: Semiring>(xs: &[S::Value], ys: &[S::Value], offset: usize, stride:
     total
 }
 
-#[tactic(auto, using(crate::proofs::Loops::sum_made))]
 pub fn sum<S: Semiring>(n: usize, x: &[S::Value], y: &[S::Value], out: &mut [S::Value])
     requires left { Long (n * n) x.now }
     requires right { Long (n * n) y.now }
     requires room { Long (n * n) out.old }
     ensures { out.new ≡ sum_entries S.ops n x.now y.now }
 {
-    for (i, entry) in out.iter_mut().enumerate() {
-        *entry = S::plus(x[i], y[i]);
-    }
+    out.copy_from_slice(x);
+    add::<S>(n, y, out);
 }
 
 // Adds x to what out holds.
