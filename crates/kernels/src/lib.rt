@@ -2,7 +2,7 @@
 // A view of a slice with its size would ask that the sizes of two views agree where a clause now asks for a length.
 #![tactic(auto)]
 
-ghost use Rattle.std.specs.Prelude.{◌≡◌, ℕ, ◌+◌, ◌*◌, ◌<◌, ◌≤◌, length, if◌then◌else◌, nat_eq};
+ghost use Rattle.std.specs.Prelude.{◌≡◌, ℕ, ◌+◌, ◌*◌, ◌<◌, ◌≤◌, length, slice_index_or, if◌then◌else◌, nat_eq};
 ghost use Rattle.kernels.specs.Entries.{Long, SlicesHoldTables, read, identity_entries, sum_entries, product_entries, value_between, row_by_column};
 
 use algebra::interface::Semiring;
@@ -43,10 +43,10 @@ pub fn add<S: Semiring>(n: usize, x: &[S::Value], out: &mut [S::Value])
 }
 
 // Writes f(p, q) into row p and column q.
-fn fill<S: Semiring, F: Fn(usize, usize) -> S::Value>(n: usize, out: &mut [S::Value], f: F)
+fn fill<V: Copy, F: Fn(usize, usize) -> V>(n: usize, out: &mut [V], f: F)
     requires room { Long (n * n) out.old }
     requires callable { (p q : ℕ) → p < n → q < n → F.pre f p q }
-    ensures { (p q : ℕ) → p < n → q < n → F.post f p q (read S.ops out.new (p * n + q)) }
+    ensures { (beyond : V) (p q : ℕ) → p < n → q < n → F.post f p q (slice_index_or out.new (p * n + q) beyond) }
 {
     // By index: `chunks_mut` asks for n > 0, and what is written through it is not known afterwards.
     for p in 0..n {
@@ -62,7 +62,7 @@ pub fn product<S: Semiring>(n: usize, x: &[S::Value], y: &[S::Value], out: &mut 
     requires room { Long (n * n) out.old }
     ensures { out.new ≡ product_entries S.ops n x.now y.now }
 {
-    fill::<S, _>(n, out, |p, q| {
+    fill(n, out, |p, q| {
         let at = p * n;
         dot::<S>(&x[at..at + n], y, q, n)
     });
@@ -72,7 +72,7 @@ pub fn identity<S: Semiring>(n: usize, out: &mut [S::Value])
     requires room { Long (n * n) out.old }
     ensures { out.new ≡ identity_entries S.ops n }
 {
-    fill::<S, _>(n, out, |p, q| if p == q { S::one() } else { S::zero() });
+    fill(n, out, |p, q| if p == q { S::one() } else { S::zero() });
 }
 
 pub fn value<S: Semiring>(
