@@ -2,8 +2,8 @@
 // A view of a slice with its size would ask that the sizes of two views agree where a clause now asks for a length.
 #![tactic(auto)]
 
-ghost use Rattle.std.specs.Prelude.{◌≡◌, ℕ, ◌+◌, ◌*◌, ◌<◌, ◌≤◌, length, slice_index_or, if◌then◌else◌, nat_eq};
-ghost use Rattle.kernels.specs.Entries.{Long, SlicesHoldTables, read, identity_entries, sum_entries, product_entries, value_between, row_by_column};
+ghost use Rattle.std.specs.Prelude.{◌≡◌, ℕ, ◌+◌, ◌*◌, ◌<◌, length, slice_index_or};
+ghost use Rattle.kernels.specs.Entries.{Long, SlicesHoldTables, identity_entries, sum_entries, product_entries, value_between, row_by_column};
 
 use algebra::interface::Semiring;
 
