@@ -1,7 +1,5 @@
 -- What a loop has summed or written so far, and what it has in the end.
-use Rattle.std.proofs.Common.{◌≡◌, ℕ, ◌+◌, ◌-◌, ◌*◌, ◌<◌, ◌≤◌, List, length, take, drop, sym, refl, ap, ◌∙◌, ap₂, mul-le-mul_right, suc-mul, arith, rules, length-take-le, length-drop, get_or-drop, get_or-take, below_more}
-use borrow.Rule.Slice.PartMut.{put_mid}
-use Rattle.std.proofs.lemmas.List.{places}
+use Rattle.std.proofs.Common.{◌≡◌, ℕ, ◌+◌, ◌*◌, ◌<◌, ◌≤◌, List, length, take, drop, sym, refl, ap, ◌∙◌, ap₂, mul-le-mul_right, suc-mul, arith, length-take-le, length-drop, get_or-drop, get_or-take}
 use Rattle.algebra.specs.Semiring.{Ops, Laws, sum_to}
 use Rattle.algebra.specs.Tables.{Table, cell, filled}
 use Rattle.algebra.proofs.Sums.{sum_below, times_sum}
@@ -10,9 +8,6 @@ use Rattle.kernels.specs.Entries.{read, table_of, sum_entries, value_between, ro
 
 row_end : (n p : ℕ) → p < n → p * n + n ≤ n * n
 row_end n p h = omega (arith, suc-mul p n, mul-le-mul_right n h)
-
-row_below : (n i p j : ℕ) → i < p → j < n → i * n + j < p * n
-row_below n i p j h l = omega (arith, suc-mul i n, mul-le-mul_right n h)
 
 pub place : (n p q : ℕ) → p < n → q < n → p * n + q < n * n
 place n p q h l = omega (arith, row_end n p h)
@@ -25,18 +20,6 @@ pub row_long : {V : Type 0} (n p : ℕ) (xs : List V) → p < n → length xs �
 row_long n p xs h long = length-take-le n (drop (p * n) xs) (simp length-drop (omega (arith, row_end n p h)))
 
 module _ {V : Type 0} (O : Ops V) where
-  -- one row more, of a table with f p q in row p and column q
-  pub rows_more : (n p m : ℕ) (out row : List V) (f : ℕ → ℕ → V) → p < n → m ≡ n → length out ≡ n * n
-      → length row ≡ length (take m (drop (p * n) out))
-      → ((i : ℕ) → i < p → (j : ℕ) → j < n → read O out (i * n + j) ≡ f i j) → ((j : ℕ) → j < n → read O row j ≡ f p j)
-      → (i : ℕ) → i < p + 1 → (j : ℕ) → j < n → read O (put_mid (p * n) m out row) (i * n + j) ≡ f i j
-  rows_more n p m out row f h whole long kept before here =
-      let fits : p * n ≤ length out = omega (arith, row_end n p h) in
-      let wide : length row ≡ n = rw whole at kept ∙ row_long n p out h long in
-      below_more (λ i. (j : ℕ) → j < n → read O (put_mid (p * n) m out row) (i * n + j) ≡ f i j) p
-      (λ i l j w. let earlier = row_below n i p j l w in let e = before i l j w in search (rules, places))
-      (λ j w. let at : p * n + j - p * n ≡ j = omega arith in let e = here j w in search (rules, places))
-
   pub all_rows : (n : ℕ) (out : List V) (f : ℕ → ℕ → V) → length out ≡ n * n
       → ((i : ℕ) → i < n → (j : ℕ) → j < n → read O out (i * n + j) ≡ f i j) → out ≡ (filled O n f).entries
   all_rows n out f long made =

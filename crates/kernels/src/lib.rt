@@ -2,8 +2,8 @@
 // A view of a slice with its size would ask that the sizes of two views agree where a clause now asks for a length.
 #![tactic(auto)]
 
-ghost use Rattle.std.specs.Prelude.{◌≡◌, ℕ, ◌+◌, ◌*◌, ◌<◌, ◌≤◌, length, if◌then◌else◌, nat_eq};
-ghost use Rattle.kernels.specs.Entries.{Long, SlicesHoldTables, read, identity_entries, sum_entries, product_entries, value_between, row_by_column};
+ghost use Rattle.std.specs.Prelude.{◌≡◌, ℕ, ◌+◌, ◌*◌, ◌<◌, length, slice_index_or};
+ghost use Rattle.kernels.specs.Entries.{Long, SlicesHoldTables, identity_entries, sum_entries, product_entries, value_between, row_by_column};
 
 use algebra::interface::Semiring;
 
@@ -20,16 +20,14 @@ pub fn dot<S: Semiring>(xs: &[S::Value], ys: &[S::Value], offset: usize, stride:
     total
 }
 
-#[tactic(auto, using(crate::proofs::Loops::sum_made))]
 pub fn sum<S: Semiring>(n: usize, x: &[S::Value], y: &[S::Value], out: &mut [S::Value])
     requires left { Long (n * n) x.now }
     requires right { Long (n * n) y.now }
     requires room { Long (n * n) out.old }
     ensures { out.new ≡ sum_entries S.ops n x.now y.now }
 {
-    for (i, entry) in out.iter_mut().enumerate() {
-        *entry = S::plus(x[i], y[i]);
-    }
+    out.copy_from_slice(x);
+    add::<S>(n, y, out);
 }
 
 // Adds x to what out holds.
@@ -44,15 +42,17 @@ pub fn add<S: Semiring>(n: usize, x: &[S::Value], out: &mut [S::Value])
     }
 }
 
-// The row x times each column of y.
-fn product_row<S: Semiring>(n: usize, x: &[S::Value], y: &[S::Value], out: &mut [S::Value])
-    requires row { Long n x.now }
-    requires table { Long (n * n) y.now }
-    requires room { Long n out.old }
-    ensures { (q : ℕ) → q < n → read S.ops out.new q ≡ row_by_column S.ops x.now y.now q n n }
+// Writes f(p, q) into row p and column q.
+fn fill<V: Copy, F: Fn(usize, usize) -> V>(n: usize, out: &mut [V], f: F)
+    requires room { Long (n * n) out.old }
+    requires callable { (p q : ℕ) → p < n → q < n → F.pre f p q }
+    ensures { (beyond : V) (p q : ℕ) → p < n → q < n → F.post f p q (slice_index_or out.new (p * n + q) beyond) }
 {
-    for (q, entry) in out.iter_mut().enumerate() {
-        *entry = dot::<S>(x, y, q, n);
+    // By index: `chunks_mut` asks for n > 0, and what is written through it is not known afterwards.
+    for p in 0..n {
+        for q in 0..n {
+            out[p * n + q] = f(p, q);
+        }
     }
 }
 
@@ -62,32 +62,17 @@ pub fn product<S: Semiring>(n: usize, x: &[S::Value], y: &[S::Value], out: &mut 
     requires room { Long (n * n) out.old }
     ensures { out.new ≡ product_entries S.ops n x.now y.now }
 {
-    // By index: `chunks_mut` asks for n > 0, and what is written through it is not known afterwards.
-    for p in 0..n {
+    fill(n, out, |p, q| {
         let at = p * n;
-        product_row::<S>(n, &x[at..at + n], y, &mut out[at..at + n]);
-    }
-}
-
-// Row p of the identity.
-fn identity_row<S: Semiring>(n: usize, p: usize, out: &mut [S::Value])
-    requires { Long n out.old }
-    ensures { (q : ℕ) → q < n → read S.ops out.new q ≡ (if nat_eq p q then S.ops.one else S.ops.zero) }
-{
-    for (q, entry) in out.iter_mut().enumerate() {
-        *entry = if p == q { S::one() } else { S::zero() };
-    }
+        dot::<S>(&x[at..at + n], y, q, n)
+    });
 }
 
 pub fn identity<S: Semiring>(n: usize, out: &mut [S::Value])
     requires room { Long (n * n) out.old }
     ensures { out.new ≡ identity_entries S.ops n }
 {
-    // By index, as in `product`.
-    for p in 0..n {
-        let at = p * n;
-        identity_row::<S>(n, p, &mut out[at..at + n]);
-    }
+    fill(n, out, |p, q| if p == q { S::one() } else { S::zero() });
 }
 
 pub fn value<S: Semiring>(
