@@ -37,6 +37,7 @@ pub fn add<S: Semiring>(n: usize, x: &[S::Value], out: &mut [S::Value])
     requires room { Long (n * n) out.old }
     ensures { out.new ≡ sum_entries S.ops n out.old x.now }
 {
+    // `x` by index: what is written through a zip over `iter_mut` is not known afterwards.
     for (i, entry) in out.iter_mut().enumerate() {
         *entry = S::plus(*entry, x[i]);
     }
@@ -87,7 +88,7 @@ pub fn value<S: Semiring>(
     ensures { result ≡ value_between S.ops n start.now table.now finish.now }
 {
     let mut total = S::zero();
-    // By index, since `chunks_exact` asks for n > 0.
+    // Rows by index: `chunks_exact` asks for n > 0, and over a zip an invariant speaks of all that was yielded.
     for (p, first) in start.iter().enumerate() {
         let at = p * n;
         let rest = dot::<S>(&table[at..at + n], finish, 0, 1);
