@@ -71,6 +71,7 @@ impl Algebra for Matrices {
 
     ghost coded = { matrix_coded };
 
+    // `code` and `value` are the conversions, and nothing else needs one.
     fn code(value: Matrix) -> Option<u32> {
         let [a, b, c, d] = [value.a, value.b, value.c, value.d].map(u32::from);
         Below::<MATRICES> {

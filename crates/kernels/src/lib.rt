@@ -13,7 +13,7 @@ pub fn dot<S: Semiring>(xs: &[S::Value], ys: &[S::Value], offset: usize, stride:
     ensures { result ≡ row_by_column S.ops xs.now ys.now offset stride (length xs.now) }
 {
     let mut total = S::zero();
-    // `ys` by index, since `step_by` asks for a stride above 0.
+    // `ys` by index: `step_by` asks for a stride above 0 and an offset within `ys`, which no caller has had to show.
     for (r, x) in xs.iter().enumerate() {
         total = S::plus(total, S::times(*x, ys[offset + r * stride]));
     }
@@ -49,7 +49,7 @@ fn fill<V: Copy, F: Fn(usize, usize) -> V>(n: usize, out: &mut [V], f: F)
     requires callable { (p q : ℕ) → p < n → q < n → F.pre f p q }
     ensures { (beyond : V) (p q : ℕ) → p < n → q < n → F.post f p q (slice_index_or out.new (p * n + q) beyond) }
 {
-    // By index: `chunks_mut` asks for n > 0, and what is written through it is not known afterwards.
+    // By index: `chunks_mut` asks for n > 0, and what is written through it is not known afterwards; one index would be divided by n.
     for p in 0..n {
         for q in 0..n {
             out[p * n + q] = f(p, q);
@@ -63,6 +63,7 @@ pub fn product<S: Semiring>(n: usize, x: &[S::Value], y: &[S::Value], out: &mut 
     requires room { Long (n * n) out.old }
     ensures { out.new ≡ product_entries S.ops n x.now y.now }
 {
+    // The row by index, as in `value`.
     fill(n, out, |p, q| {
         let at = p * n;
         dot::<S>(&x[at..at + n], y, q, n)

@@ -52,6 +52,7 @@ pub fn add<S: Semiring>(n: usize, w: &mut [S::Value], x: usize, out: usize)
         ≡ table_plus S.ops (table_in S.ops n w.old out) (table_in S.ops n w.old x) }
     ensures kept { Kept S.ops out (n * n) w.old w.new }
 {
+    // Lent apart as in `product`: a function that did so would need a clause on how the three parts come back.
     let (before, rest) = w.split_at_mut(out);
     let (room, behind) = rest.split_at_mut(n * n);
     kernels::add::<S>(n, stretch(before, behind, n * n, x), room);
@@ -73,10 +74,7 @@ pub fn clear<S: Semiring>(n: usize, w: &mut [S::Value], out: usize)
     ensures made { table_in S.ops n w.new out ≡ table_zero S.ops n }
     ensures kept { Kept S.ops out (n * n) w.old w.new }
 {
-    // `fill` asks for a clone that cannot fail, which `Copy` does not promise.
-    for entry in w[out..out + n * n].iter_mut() {
-        *entry = S::zero();
-    }
+    w[out..out + n * n].fill_with(|| S::zero());
 }
 
 // Writes the identity.

@@ -1,4 +1,5 @@
-// Square tables of weights in lent slices, row by row. Every call tests the slices that it is given, so no type holds the test.
+// Square tables of weights in lent slices, row by row. Users call these, so each call tests the slices that it is given, and no type
+// holds the test.
 #![tactic(auto)]
 
 ghost use Rattle.std.specs.Prelude.{◌≡◌, ℕ, ◌*◌, length};

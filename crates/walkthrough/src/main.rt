@@ -25,6 +25,7 @@ fn report<A: Algebra>(rt: &impl Print, name: &str, sheet: &Sheet<A::Value>) -> i
 
 fn main(rt: HostRuntime) -> anyhow::Result<()> {
     println!(rt; "text {TEXT}")?;
+    // Sheets are made here, where the types are known: the size of an array of weights is unbounded in generic code.
     report::<Score>(&rt, "score", &build::<Score>()?)?;
     report::<Count>(&rt, "count", &build::<Count>()?)?;
     Ok(())

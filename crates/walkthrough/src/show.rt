@@ -8,7 +8,7 @@ use std::fmt;
 pub fn codes<A: Algebra>(table: &[A::Value; 4]) -> [Option<u32>; 4]
     ensures { result ≡ map A.codes.code table.now }
 {
-    // `table.map(A::code)` passes a method of a bound as a function, which is not covered yet.
+    // `table.map(|w| A::code(w))` leaves it unproved that the entries have a size, and `A::code` as a function is not covered.
     let [a, b, c, d] = *table;
     [A::code(a), A::code(b), A::code(c), A::code(d)]
 }
