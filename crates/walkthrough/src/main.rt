@@ -3,6 +3,7 @@
 
 mod sheet;
 mod show;
+mod stop;
 mod weigh;
 
 use algebra::interface::Algebra;
@@ -11,6 +12,7 @@ use score::Score;
 use sheet::{FINISH, START, Sheet, build};
 use show::Line;
 use std::io;
+use stop::Stop;
 use weigh::weigh;
 
 const TEXT: &str = "ab 7";
@@ -23,7 +25,7 @@ fn report<A: Algebra>(rt: &impl Print, name: &str, sheet: &Sheet<A::Value>) -> i
     println!(rt; "weight:{}", Line(&[A::code(weight)]))
 }
 
-fn main(rt: HostRuntime) -> anyhow::Result<()> {
+fn main(rt: HostRuntime) -> Result<(), Stop> {
     println!(rt; "text {TEXT}")?;
     // Sheets are made here, where the types are known: the size of an array of weights is unbounded in generic code.
     report::<Score>(&rt, "score", &build::<Score>()?)?;
