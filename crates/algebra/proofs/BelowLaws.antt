@@ -1,12 +1,12 @@
 -- Numbers below a bound are equal where their numbers are, and their codes are one to one.
-use Rattle.std.proofs.Common.{◌≡◌, ℕ, zero, suc, ◌^◌, ◌<◌, ◌≤◌, Ok, Err, Result, refl, ap, arith}
+use Rattle.std.proofs.Common.{◌≡◌, ℕ, zero, suc, ◌^◌, ◌<◌, ◌≤◌, Ok, Err, Result, ◌≢◌, refl, ap, arith}
 use mathlib.Core.HLevel.{is_prop→PathP}
 use Rattle.std.proofs.Math.Bridge.{le_prop}
 use Rattle.algebra.specs.declared.below.Below.{Below}
 use Rattle.algebra.specs.declared.interface.NoValue.{NoValue}
-use Rattle.algebra.specs.Below.{Numbered, number_of, with_number, below_codes}
+use Rattle.algebra.specs.Below.{Numbered, number_of, with_number, below_value, below_codes}
 use Rattle.algebra.specs.Codes.{Coded, own_value}
-use Rattle.algebra.proofs.OwnCodes.{own_coded}
+use Rattle.algebra.proofs.OwnCodes.{own_coded, own_value_at, code_of_value}
 
 -- the ghost field has one proof at most
 pub below_path : {bound : ℕ} {x y : Below bound} → x.number ≡ y.number → x ≡ y
@@ -26,3 +26,13 @@ pub below_coded : {bound : ℕ} (nothing : Below bound) (number width : ℕ) →
 below_coded {bound} nothing number width none fits some few wide =
     own_coded (number_of bound) bound (with_number bound) (λ x y. below_path) (λ c below. refl)
     nothing number width (λ x. x.within) none fits some few wide
+
+-- each number but 0 is its own code
+pub below_value_at : {bound : ℕ} (x : Below bound) → x.number ≢ 0 → below_value bound x.number ≡ Ok x
+below_value_at {bound} x some =
+    own_value_at (number_of bound) bound (with_number bound) (λ y z. below_path) (λ c below. refl)
+    x x.number _ refl (omega arith) x.within
+
+-- what has a code has one that is its number
+pub below_value_number : {bound : ℕ} (x : Below bound) (c : ℕ) → below_value bound c ≡ Ok x → (x.number ≡ c) × (0 < c)
+below_value_number {bound} x c e = code_of_value (number_of bound) bound (with_number bound) (λ y z. below_path) (λ c below. refl) c _ x e

@@ -1,5 +1,5 @@
 -- Numbers and lists of bits undo each other.
-use Rattle.std.proofs.Common.{◌≡◌, ℕ, zero, suc, ◌+◌, ◌*◌, ◌/◌, ◌%◌, ◌^◌, ◌<◌, Bool, true, false, if◌then◌else◌, List, [], ◌∷◌, length, refl, arith}
+use Rattle.std.proofs.Common.{◌≡◌, ℕ, zero, suc, ◌+◌, ◌*◌, ◌/◌, ◌%◌, ◌^◌, ◌<◌, ◌==◌, Bool, true, false, if◌then◌else◌, List, [], ◌∷◌, length, refl, arith}
 use native.Mathlib.Nat.{pow-succ'}
 use Rattle.algebra.specs.Bits.{bits, number}
 
@@ -8,6 +8,9 @@ low b n = grind arith
 
 pub rest : (b : Bool) (n : ℕ) → ((if b then 1 else 0) + 2 * n) / 2 ≡ n
 rest b n = grind arith
+
+pub low_bit : (n : ℕ) → (if n % 2 == 1 then 1 else 0) ≡ n % 2
+low_bit n = grind arith
 
 pub bits-number : (bs : List Bool) → bits (length bs) (number bs) ≡ bs
 bits-number [] = refl

@@ -15,12 +15,12 @@ module _ {V : Type 0} (number_of : V → ℕ) (bound : ℕ) (with_number : (c : 
   some_code : (v : V) → 0 < number_of v → own_code number_of bound with_number v ≡ Some (number_of v)
   some_code v h = grind arith
 
-  own_value_at : (v : V) (c : ℕ) (d : Dec (c < bound)) → number_of v ≡ c → 0 < c → c < bound → own_value number_of bound with_number c d ≡ Ok v
+  pub own_value_at : (v : V) (c : ℕ) (d : Dec (c < bound)) → number_of v ≡ c → 0 < c → c < bound → own_value number_of bound with_number c d ≡ Ok v
   own_value_at v zero d e some below = absurd (omega arith)
   own_value_at v (suc c) (yes h) e some below = ap Ok (unique _ _ (numbered (suc c) h ∙ sym e))
   own_value_at v (suc c) (no f) e some below = absurd (f below)
 
-  code_of_value : (c : ℕ) (d : Dec (c < bound)) (v : V) → own_value number_of bound with_number c d ≡ Ok v → (number_of v ≡ c) × (0 < c)
+  pub code_of_value : (c : ℕ) (d : Dec (c < bound)) (v : V) → own_value number_of bound with_number c d ≡ Ok v → (number_of v ≡ c) × (0 < c)
   code_of_value zero d v h = absurd (cc)
   code_of_value (suc c) (yes below) v h = let z : with_number (suc c) below ≡ v = cc in (sym (ap number_of z) ∙ numbered (suc c) below, omega arith)
   code_of_value (suc c) (no beyond) v h = absurd (cc)

@@ -1,12 +1,12 @@
 -- The residues are a semiring, and their codes are one to one.
-use Rattle.std.specs.Prelude.{◌≡◌, ℕ, ◌%◌, refl}
+use Rattle.std.specs.Prelude.{◌≡◌, ℕ, ◌%◌, Ok, ◌≢◌, refl}
 use Rattle.std.proofs.Common.{sym, ap, ◌∙◌, add_assoc, add_comm, add-zero, mul_assoc, one-mul, mul-one, mul-add, add-mul, zero-mul, mul-zero, mod-eq_of_lt, lit<, lit≤}
 use Rattle.std.proofs.lemmas.Nat.{mul-mod_first, mul-mod_second}
 use Rattle.std.proofs.Math.Nat.{mod-add-mod, add-mod-mod, add-mod}
 use Rattle.algebra.specs.Semiring.{Laws}
 use Rattle.algebra.specs.Codes.{Coded}
-use Rattle.algebra.proofs.BelowLaws.{below_path, below_coded}
-use Rattle.count.specs.Count.{modulus, reduced, counts, count_codes}
+use Rattle.algebra.proofs.BelowLaws.{below_path, below_coded, below_value_at}
+use Rattle.count.specs.Count.{Residue, modulus, reduced, counts, count_codes}
 
 -- equal numbers have equal residues
 modulo : (m : ℕ) {a b : ℕ} → a ≡ b → a % m ≡ b % m
@@ -28,3 +28,6 @@ count_laws = record {
 
 pub count_coded : Coded (reduced 0) count_codes
 count_coded = below_coded (reduced 0) 3 4 refl (lit< tt) (lit≤ tt) (lit≤ tt) (lit≤ tt)
+
+pub count_value_at : (x : Residue) → x.number ≢ 0 → count_codes.value x.number ≡ Ok x
+count_value_at x some = below_value_at x some

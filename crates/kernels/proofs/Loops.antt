@@ -6,7 +6,7 @@ use Rattle.algebra.proofs.Sums.{sum_below, times_sum}
 use Rattle.algebra.proofs.TableLaws.{table_path, table_same, cell-filled}
 use Rattle.kernels.specs.Entries.{read, table_of, sum_entries, value_between, row_by_column}
 
-row_end : (n p : ℕ) → p < n → p * n + n ≤ n * n
+pub row_end : (n p : ℕ) → p < n → p * n + n ≤ n * n
 row_end n p h = omega (arith, suc-mul p n, mul-le-mul_right n h)
 
 pub place : (n p q : ℕ) → p < n → q < n → p * n + q < n * n

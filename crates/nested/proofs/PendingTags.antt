@@ -1,12 +1,13 @@
 -- The pending tags of a summary are those of its text, and how many a join has.
 use Rattle.std.proofs.Common.{◌≡◌, ℕ, ◌+◌, ◌-◌, List, [], ◌∷◌, ◌++◌, map, length, sym, refl, ap, ◌∙◌, append_assoc, append-nil, arith, length-append}
+use Rattle.std.proofs.lemmas.List.{length-map}
 use mathlib.Core.List.{map-append}
 use Rattle.algebra.specs.Semiring.{Ops, Laws}
 use Rattle.nested.specs.declared.token.Token.{Token}
 use Rattle.nested.specs.declared.token.Token.TheVariants.{Text, Closing}
 use Rattle.nested.specs.Summaries.{Transitions, Close, Open, Summary, summary, empty, last_times, pair, pairing, join, of_token, extended, of_text}
 use Rattle.nested.specs.Moves.{step, move}
-use Rattle.nested.specs.Pending.{closes_after, opens_after}
+use Rattle.nested.specs.Pending.{closes_after, opens_after, pending_closes, pending_opens}
 use Rattle.nested.proofs.Joins.{join_token}
 
 abbrev pub close_tags : {T : Type 0} → List (Close T) → List ℕ
@@ -71,3 +72,9 @@ module _ {T : Type 0} {O : Ops T} (S : Laws O) (M : Transitions T) where
 
   pub summary_open_tags : (w : List Token) → open_tags (of_text O M w).opens ≡ opens_after [] w
   summary_open_tags w = extended_open_tags (empty O) w
+
+  pub summary_closes : (w : List Token) → length (of_text O M w).closes ≡ pending_closes w
+  summary_closes w = sym (length-map (of_text O M w).closes (λ c. c.tag)) ∙ ap length (summary_close_tags w)
+
+  pub summary_opens : (w : List Token) → length (of_text O M w).opens ≡ pending_opens w
+  summary_opens w = sym (length-map (of_text O M w).opens (λ o. o.tag)) ∙ ap length (summary_open_tags w)

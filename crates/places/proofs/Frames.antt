@@ -1,18 +1,29 @@
 -- Tables within a list, and what a write leaves of it.
-use Rattle.std.proofs.Common.{◌≡◌, ℕ, ◌+◌, ◌-◌, ◌*◌, ◌<◌, List, ◌++◌, length, sym, ◌∙◌, ap, arith, rules}
+use Rattle.std.proofs.Common.{◌≡◌, ℕ, ◌+◌, ◌-◌, ◌*◌, ◌<◌, ◌≤◌, List, ◌++◌, length, sym, refl, ◌∙◌, ap, inl, inr, arith, rules}
 use Rattle.std.specs.List.{slice_range}
 use Rattle.std.proofs.lemmas.List.{places}
 use Rattle.algebra.specs.Semiring.{Ops}
-use Rattle.algebra.specs.Tables.{Table, cell}
+use Rattle.algebra.specs.Tables.{Table, cell, filled}
 use Rattle.algebra.proofs.TableLaws.{table_same, cell-filled}
 use Rattle.kernels.specs.Entries.{read, table_of}
 use Rattle.kernels.proofs.Loops.{place, cell_of}
-use Rattle.places.specs.Places.{table_in}
+use Rattle.places.specs.Places.{table_in, Kept, Apart}
+
+-- parts of stretches that are apart
+pub parts_apart : (x m y k x' m' y' k' : ℕ) → Apart x m y k → x ≤ x' → x' + m' ≤ x + m → y ≤ y' → y' + k' ≤ y + k → Apart x' m' y' k'
+parts_apart x m y k x' m' y' k' (inl before) a b c d = inl (omega arith)
+parts_apart x m y k x' m' y' k' (inr behind) a b c d = inr (omega arith)
 
 module _ {V : Type 0} (O : Ops V) where
-  cell_in : (n : ℕ) (w : List V) (x p q : ℕ) → p < n → q < n → cell O (table_in O n w x) p q ≡ read O w (x + (p * n + q))
+  pub cell_in : (n : ℕ) (w : List V) (x p q : ℕ) → p < n → q < n → cell O (table_in O n w x) p q ≡ read O w (x + (p * n + q))
   unfolding table_in
   cell_in n w x p q hp hq = cell-filled O n (λ i j. read O w (x + (i * n + j))) p q hp hq
+
+  -- the table that is written entry by entry
+  pub table_made : (n : ℕ) (w : List V) (x : ℕ) (f : ℕ → ℕ → V)
+      → ((p q : ℕ) → p < n → q < n → read O w (x + (p * n + q)) ≡ f p q) → table_in O n w x ≡ filled O n f
+  table_made n w x f made =
+      table_same O _ _ (λ p q hp hq. cell_in n w x p q hp hq ∙ made p q hp hq ∙ sym (cell-filled O n f p q hp hq))
 
   -- the same entries, from y on
   pub table_moved : (n : ℕ) (w w' : List V) (x y : ℕ) → ((k : ℕ) → k < n * n → read O w' (y + k) ≡ read O w (x + k)) → table_in O n w' y ≡ table_in O n w x
@@ -36,3 +47,21 @@ module _ {V : Type 0} (O : Ops V) where
       let long' = ap length made ∙ A.sized in
       let there = cell_in n (before ++ (part ++ behind)) x p q hp hq in
       search (rules, places))
+
+  -- a weight outside of what was written
+  pub read_kept : (y k : ℕ) (w w' : List V) → Kept O y k w w' → (x m i : ℕ) → Apart x m y k → i < m → read O w' (x + i) ≡ read O w (x + i)
+  read_kept y k w w' kept x m i (inl before) h = kept (x + i) (inl (omega arith))
+  read_kept y k w w' kept x m i (inr behind) h = kept (x + i) (inr (omega arith))
+
+  pub table_kept : (n y k : ℕ) (w w' : List V) → Kept O y k w w' → (x : ℕ) → Apart x (n * n) y k → table_in O n w' x ≡ table_in O n w x
+  table_kept n y k w w' kept x apart = table_moved n w w' x x (λ i h. read_kept y k w w' kept x (n * n) i apart h)
+
+  pub kept_none : (y : ℕ) (w : List V) → Kept O y 0 w w
+  kept_none y w k h = refl
+
+  pub kept_wider : (x m y k : ℕ) (w w' : List V) → y ≤ x → x + m ≤ y + k → Kept O x m w w' → Kept O y k w w'
+  kept_wider x m y k w w' low high kept i (inl h) = kept i (inl (omega arith))
+  kept_wider x m y k w w' low high kept i (inr h) = kept i (inr (omega arith))
+
+  pub kept_twice : (y k : ℕ) (w w' w'' : List V) → Kept O y k w w' → Kept O y k w' w'' → Kept O y k w w''
+  kept_twice y k w w' w'' first second i h = second i h ∙ first i h

@@ -14,7 +14,7 @@ use Rattle.walkthrough.specs.Weight.{class_entries, byte_table, text_table}
 
 module _ {V : Type 0} {O : Ops V} (S : Laws O) (sheet : Sheet V) where
   -- one byte more
-  text_more : (text : List ℕ) (i : ℕ) → i < length text
+  pub text_more : (text : List ℕ) (i : ℕ) → i < length text
       → text_table O sheet (take (i + 1) text) ≡ table_times O (text_table O sheet (take i text)) (byte_table O sheet (get_or text i 0))
   text_more text i within =
       let L = table_laws S 2 in
