@@ -20,14 +20,17 @@ pub fn dot<S: Semiring>(xs: &[S::Value], ys: &[S::Value], offset: usize, stride:
     total
 }
 
+#[tactic(auto, using(crate::proofs::Loops::sum_made))]
 pub fn sum<S: Semiring>(n: usize, x: &[S::Value], y: &[S::Value], out: &mut [S::Value])
     requires left { Long (n * n) x.now }
     requires right { Long (n * n) y.now }
     requires room { Long (n * n) out.old }
     ensures { out.new ≡ sum_entries S.ops n x.now y.now }
 {
-    out.copy_from_slice(x);
-    add::<S>(n, y, out);
+    // One pass, by index as in `add`: to copy `x` and add `y` to it took up to four times as long.
+    for (i, entry) in out.iter_mut().enumerate() {
+        *entry = S::plus(x[i], y[i]);
+    }
 }
 
 // Adds x to what out holds.
@@ -51,8 +54,9 @@ fn fill<V: Copy, F: Fn(usize, usize) -> V>(n: usize, out: &mut [V], f: F)
 {
     // By index: `chunks_mut` asks for n > 0, and what is written through it is not known afterwards; one index would be divided by n.
     for p in 0..n {
+        let row = p * n;
         for q in 0..n {
-            out[p * n + q] = f(p, q);
+            out[row + q] = f(p, q);
         }
     }
 }
@@ -89,11 +93,12 @@ pub fn value<S: Semiring>(
     ensures { result ≡ value_between S.ops n start.now table.now finish.now }
 {
     let mut total = S::zero();
-    // Rows by index: `chunks_exact` asks for n > 0, and over a zip an invariant speaks of all that was yielded.
-    for (p, first) in start.iter().enumerate() {
+    // Rows by index: `chunks_exact` asks for n > 0, and over a zip an invariant speaks of all that was yielded. `start` by index
+    // too: over its iterator, scores took up to a half longer.
+    for p in 0..n {
         let at = p * n;
         let rest = dot::<S>(&table[at..at + n], finish, 0, 1);
-        total = S::plus(total, S::times(*first, rest));
+        total = S::plus(total, S::times(start[p], rest));
     }
     total
 }

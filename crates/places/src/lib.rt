@@ -53,9 +53,9 @@ pub fn add<S: Semiring>(n: usize, w: &mut [S::Value], x: usize, out: usize)
     ensures kept { Kept S.ops out (n * n) w.old w.new }
 {
     // Lent apart as in `product`: a function that did so would need a clause on how the three parts come back.
-    let (before, rest) = w.split_at_mut(out);
+    let (front, rest) = w.split_at_mut(out);
     let (room, behind) = rest.split_at_mut(n * n);
-    kernels::add::<S>(n, stretch(before, behind, n * n, x), room);
+    kernels::add::<S>(n, stretch(front, behind, n * n, x), room);
 }
 
 // Writes the table at x once more.

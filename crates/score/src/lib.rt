@@ -31,13 +31,15 @@ impl Semiring for Score {
         Some(Below { number: 0 })
     }
 
-    // `a.max(b)` is the same, and takes twice the time in a sum of products.
+    // `a.max(b)` is the same, and takes twice the time in a sum of products; a match on both takes up to a half more.
     fn plus(a: Option<Points>, b: Option<Points>) -> Option<Points> {
-        match (a, b) {
-            (Some(x), Some(y)) => Some(x.max(y)),
-            (None, _) => b,
-            (_, None) => a,
-        }
+        let Some(x) = a else {
+            return b;
+        };
+        let Some(y) = b else {
+            return a;
+        };
+        if x.number < y.number { b } else { a }
     }
 
     fn times(a: Option<Points>, b: Option<Points>) -> Option<Points> {

@@ -6,20 +6,20 @@ ghost use Rattle.algebra.specs.Bits.{bits, number};
 ghost use Rattle.turn.specs.Turn.{turns, turn_codes, crossed};
 ghost use Rattle.turn.specs.Turns.{turn_laws, turn_coded};
 
+pub mod relation;
+
+pub use crate::relation::Relation;
 use algebra::below::Below;
 use algebra::interface::{Algebra, NoValue, Semiring};
+
+pub struct Turn;
 
 // there are so many sets of the nine pairs
 const SETS: u32 = 512;
 
-// A set of pairs (i, j) of the directions 0, 1 and 2: bit 3 i + j of the number says that the pair is in it.
-pub type Relation = Below<SETS>;
-
-pub struct Turn;
-
 // The pairs (i, j) with bit 3 i in `column` and bit j in `row`: the row, once for each i.
 #[tactic(auto, using(crate::specs::Turns::crossing))]
-fn cross(column: u32, row: u32) -> u32
+fn cross(column: u16, row: u16) -> u16
     ensures { result ≡ number (crossed (bits 7 column) (bits 3 row)) }
 {
     (column & 0b001_001_001) * (row & 0b111)
@@ -33,28 +33,28 @@ impl Semiring for Turn {
     ghost lawful = { turn_laws };
 
     fn zero() -> Relation {
-        Below { number: 0 }
+        Relation { bits: 0 }
     }
 
     fn one() -> Relation {
-        Below {
-            number: 0b100_010_001,
+        Relation {
+            bits: 0b100_010_001,
         }
     }
 
     fn plus(a: Relation, b: Relation) -> Relation {
-        Below {
-            number: a.number | b.number,
+        Relation {
+            bits: a.bits | b.bits,
         }
     }
 
     // the pairs by way of 0, of 1 and of 2
     fn times(a: Relation, b: Relation) -> Relation {
-        let by_0 = cross(a.number, b.number);
-        let by_1 = cross(a.number >> 1, b.number >> 3);
-        let by_2 = cross(a.number >> 2, b.number >> 6);
-        Below {
-            number: by_0 | by_1 | by_2,
+        let by_0 = cross(a.bits, b.bits);
+        let by_1 = cross(a.bits >> 1, b.bits >> 3);
+        let by_2 = cross(a.bits >> 2, b.bits >> 6);
+        Relation {
+            bits: by_0 | by_1 | by_2,
         }
     }
 }
@@ -75,10 +75,14 @@ impl Algebra for Turn {
     ghost coded = { turn_coded };
 
     fn code(value: Relation) -> Option<u32> {
-        value.own_code()
+        let number = u32::from(value.bits);
+        Below::<SETS> { number }.own_code()
     }
 
     fn value(code: u32) -> Result<Relation, NoValue> {
-        Below::with_own_code(code)
+        let number = Below::<SETS>::with_own_code(code)?.number;
+        Ok(Relation {
+            bits: number as u16,
+        })
     }
 }

@@ -9,7 +9,7 @@ loop-p-preserved g c =
     let p = c.loop-p.p in
     let whole : p * n + n - p * n ≡ n = omega arith in
     let long = row_long n p c.args.table.now (omega arith) c.requires.middle in
-    let first = get_or_read c.args.start.now p _ c.loop-p-test.true c.index-start-p.is g.S.Semiring.ops.zero in
+    let first = get_or_read c.args.start.now p _ (omega arith) c.index-start-p.is g.S.Semiring.ops.zero in
     let rest = rw (whole, long) at c.dot-rest.ensures in
     rw add-one cc
 

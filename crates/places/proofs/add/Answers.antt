@@ -12,5 +12,5 @@ returns-clause-made g c =
     let room = c.split_at_mut-room.result.0.now in
     let inside : out + n * n - out ≡ n * n = omega arith in
     let x_is = c.stretch.ensures room c.split_at_mut-room.ensures.front_len in
-    table_between O n out _ _ _ _ c.split_at_mut-before.ensures.front_len c.add.ensures
+    table_between O n out _ _ _ _ c.split_at_mut-front.ensures.front_len c.add.ensures
     ∙ ap₂ (table_plus O {n = n}) (table_of_stretch O n out _ w (rw inside cc)) (table_of_stretch O n c.args.x _ w cc)
