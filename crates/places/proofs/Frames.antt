@@ -1,11 +1,11 @@
 -- Tables within a list, and what a write leaves of it.
-use Rattle.std.proofs.Common.{◌≡◌, ℕ, ◌+◌, ◌-◌, ◌*◌, ◌<◌, ◌≤◌, List, ◌++◌, length, sym, refl, ◌∙◌, ap, inl, inr, arith, rules}
+use Rattle.std.proofs.Common.{ap₂, ◌≡◌, ℕ, ◌+◌, ◌-◌, ◌*◌, ◌<◌, ◌≤◌, List, ◌++◌, length, sym, refl, ◌∙◌, ap, inl, inr, arith, rules}
 use Rattle.std.specs.List.{slice_range}
 use Rattle.std.proofs.lemmas.List.{places}
 use Rattle.algebra.specs.Semiring.{Ops}
-use Rattle.algebra.specs.Tables.{Table, cell, filled}
+use Rattle.algebra.specs.Tables.{Table, cell, filled, table_plus, table_times}
 use Rattle.algebra.proofs.TableLaws.{table_same, cell-filled}
-use Rattle.kernels.specs.Entries.{read, table_of}
+use Rattle.kernels.specs.Entries.{read, table_of, sum_entries, product_entries}
 use Rattle.kernels.proofs.Loops.{place, cell_of}
 use Rattle.places.specs.Places.{table_in, Kept, Apart}
 
@@ -65,3 +65,21 @@ module _ {V : Type 0} (O : Ops V) where
 
   pub kept_twice : (y k : ℕ) (w w' w'' : List V) → Kept O y k w w' → Kept O y k w' w'' → Kept O y k w w''
   kept_twice y k w w' w'' first second i h = second i h ∙ first i h
+
+  -- what is made of the tables in two stretches of a list, written between two parts of it
+  of_stretches : (n x y out : ℕ) (op : Table V n → Table V n → Table V n) (w before behind left right part : List V) → length before ≡ out
+      → left ≡ slice_range w x (x + n * n) → right ≡ slice_range w y (y + n * n) → part ≡ (op (table_of O n left) (table_of O n right)).entries
+      → table_in O n (before ++ (part ++ behind)) out ≡ op (table_in O n w x) (table_in O n w y)
+  of_stretches n x y out op w before behind left right part long from_x from_y made =
+      table_between n out before part behind _ long made
+      ∙ ap₂ op (table_of_stretch n x left w from_x) (table_of_stretch n y right w from_y)
+
+  pub product_between : (n x y out : ℕ) (w before behind left right part : List V) → length before ≡ out
+      → left ≡ slice_range w x (x + n * n) → right ≡ slice_range w y (y + n * n) → part ≡ product_entries O n left right
+      → table_in O n (before ++ (part ++ behind)) out ≡ table_times O (table_in O n w x) (table_in O n w y)
+  product_between n x y out = of_stretches n x y out (table_times O)
+
+  pub sum_between : (n x out : ℕ) (w before behind room left part : List V) → length before ≡ out
+      → room ≡ slice_range w out (out + n * n) → left ≡ slice_range w x (x + n * n) → part ≡ sum_entries O n room left
+      → table_in O n (before ++ (part ++ behind)) out ≡ table_plus O (table_in O n w out) (table_in O n w x)
+  sum_between n x out = of_stretches n out x out (table_plus O)

@@ -24,7 +24,7 @@ fn stretch<'a, V>(before: &'a [V], behind: &'a [V], size: usize, x: usize) -> &'
 }
 
 // Writes the product of the tables at x and at y.
-#[tactic(auto, using(std::proofs::lemmas::List::places))]
+#[tactic(auto, using(std::proofs::lemmas::List::places, crate::proofs::Frames::product_between))]
 pub fn product<S: Semiring>(n: usize, w: &mut [S::Value], x: usize, y: usize, out: usize)
     requires left { Fits x (n * n) w.old }
     requires right { Fits y (n * n) w.old }
@@ -43,7 +43,7 @@ pub fn product<S: Semiring>(n: usize, w: &mut [S::Value], x: usize, y: usize, ou
 }
 
 // Adds the table at x to the one at out.
-#[tactic(auto, using(std::proofs::lemmas::List::places))]
+#[tactic(auto, using(std::proofs::lemmas::List::places, crate::proofs::Frames::sum_between))]
 pub fn add<S: Semiring>(n: usize, w: &mut [S::Value], x: usize, out: usize)
     requires table { Fits x (n * n) w.old }
     requires room { Fits out (n * n) w.old }
@@ -53,9 +53,9 @@ pub fn add<S: Semiring>(n: usize, w: &mut [S::Value], x: usize, out: usize)
     ensures kept { Kept S.ops out (n * n) w.old w.new }
 {
     // Lent apart as in `product`: a function that did so would need a clause on how the three parts come back.
-    let (front, rest) = w.split_at_mut(out);
+    let (before, rest) = w.split_at_mut(out);
     let (room, behind) = rest.split_at_mut(n * n);
-    kernels::add::<S>(n, stretch(front, behind, n * n, x), room);
+    kernels::add::<S>(n, stretch(before, behind, n * n, x), room);
 }
 
 // Writes the table at x once more.
