@@ -27,7 +27,7 @@ pub fn sum<S: Semiring>(n: usize, x: &[S::Value], y: &[S::Value], out: &mut [S::
     requires room { Long (n * n) out.old }
     ensures { out.new ≡ sum_entries S.ops n x.now y.now }
 {
-    // One pass, `x` and `y` by index as in `add`: to copy `x` and add `y` to it took up to 2.8 times as long.
+    // One pass, `x` and `y` by index as in `add`: to copy `x` and add `y` to it takes longer.
     for (i, entry) in out.iter_mut().enumerate() {
         *entry = S::plus(x[i], y[i]);
     }
